@@ -1,0 +1,2 @@
+mod SameItem
+mod Layouts
