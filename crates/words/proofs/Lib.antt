@@ -1,2 +1,2 @@
-mod SameItem
-mod Layouts
+pub mod SameItem
+pub mod Layouts

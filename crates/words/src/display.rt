@@ -4,10 +4,12 @@ ghost use Rattle.std.specs.declared.option.Option.the-variants.{Some};
 ghost use Rattle.words.specs.Text.{edit-text, reading-text, ring-text, degrees, part-text, fault-text};
 use crate::edits::Edit;
 use crate::faults::ItemFault;
+use crate::faults::ItemFaultDebug;
 use crate::parts::Part;
 use crate::readings::Reading;
 use crate::rings::RingNumber;
 use crate::settings::SettingDisplay;
+use std::error::Error;
 use std::fmt;
 
 pub impl fmt::Display for Part as PartDisplay {
@@ -43,6 +45,8 @@ pub impl fmt::Display for ItemFault as ItemFaultDisplay {
         }
     }
 }
+
+pub impl Error for ItemFault as ItemFaultError {}
 
 pub impl fmt::Display for Edit as EditDisplay {
     ghost shown = { λ e. Some (edit-text e) };
