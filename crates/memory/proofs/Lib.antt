@@ -1,0 +1,10 @@
+pub mod Tidy
+pub mod Landing
+pub mod Tables
+pub mod Lines
+pub mod Entries
+pub mod Prompts
+pub mod Looses
+pub mod Buffers
+pub mod Addresses
+pub mod Picks

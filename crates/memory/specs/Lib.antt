@@ -1,0 +1,11 @@
+pub mod Meaning
+pub mod Refusals
+pub mod Owner
+pub mod Prompt
+pub mod Table
+pub mod Line
+pub mod Loose
+pub mod Entries
+pub mod Buffer
+pub mod Pile
+pub mod Laws
