@@ -1,0 +1,2 @@
+mod TableRows
+mod HandOver

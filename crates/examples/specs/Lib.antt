@@ -1,1 +1,2 @@
+pub mod LooseHandOver
 pub mod Examples

@@ -5,6 +5,8 @@ use Rattle.std.proofs.shelf.Signed.{ints}
 use Rattle.words.specs.declared.settings.Setting.the-variants.{TopHeat}
 use Rattle.words.specs.Settings.{code}
 use Rattle.words.specs.Words.{temperature-bits}
+use Rattle.memory.proofs.Picks.{loose-picks}
+use Rattle.examples.proofs.HandOver.{loose-hand-over}
 use Rattle.examples.proofs.examples_hold.Needs as need
 
 pub returns : need.returns
@@ -22,4 +24,11 @@ returns c = record {
   bare-is-no-edit = λ e h. omega (arith, ints);
   bare-is-no-reading = λ r h. omega (arith, ints);
   bare-is-no-ring = λ n h. omega arith;
+  loose-picks = loose-picks;
+  two-rings-of-one-need-7-words = refl;
+  eight-rings-of-64-need-529-words = refl;
+  one-ring-is-refused = λ N h. omega (arith, h .0);
+  nine-rings-are-refused = λ N h. omega (arith, h .1);
+  rings-out-of-range-is-refusal-3 = refl;
+  loose-hand-over = loose-hand-over;
 }

@@ -1,0 +1,4 @@
+mod Rows
+pub mod Busy
+pub mod Sizes
+pub mod Owned

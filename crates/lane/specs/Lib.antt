@@ -1,0 +1,11 @@
+pub mod Refusals
+pub mod Layout
+pub mod Stages
+pub mod Calls
+pub mod Moves
+pub mod PutTable
+pub mod TakeTable
+pub mod Moments
+pub mod Openings
+pub mod Ends
+pub mod Owning

@@ -1,0 +1,9 @@
+pub mod Waiting
+pub mod LineLaws
+pub mod Busy
+pub mod History
+pub mod Calls
+pub mod Promise
+pub mod Examples
+pub mod Plays
+pub mod InPlay
