@@ -82,20 +82,20 @@ lone a w b v (o ∷ older) younger h = absurd (none-in-none older (store b v) yo
 
 module _ (words : List ℕ) where
   seen : (s : Side) (a w : ℕ) (x y : Loose) (entries : List Entry) → loose-meaning x ≡ waits words entries → makes loose (Look s a w) x y → (w ≡ look s a (waits words entries)) × (loose-meaning y ≡ waits words entries)
-  seen s a w x y entries m h = (h .call .1 ∙ ap (look s a) m, h .call .2 ∙ m)
+  seen s a w x y entries m h = (h .call .0 .1 ∙ ap (look s a) m, h .call .0 .2 ∙ m)
 
   barred : (x y : Loose) → loose-meaning x ≡ waits words [] → makes loose (Bar Feeder) x y → loose-meaning y ≡ waits words []
-  barred x y m h = h .call ∙ ap (joined Feeder bar) m
+  barred x y m h = h .call .0 ∙ ap (joined Feeder bar) m
 
   stored : (a w : ℕ) (x y : Loose) → loose-meaning x ≡ waits words [] → makes loose (Store Feeder a w) x y → loose-meaning y ≡ waits words (store a w ∷ [])
-  stored a w x y m h = room (h .call .1 .room)
+  stored a w x y m h = room (h .call .0 .1 .room)
     where
-      room : Room Feeder (loose-meaning x) (h .call .1 .roomy) → loose-meaning y ≡ waits words (store a w ∷ [])
-      room (loosely.Room.found l e) = h .call .1 .after ∙ ap (joined Feeder (store a w)) (e ∙ m)
+      room : Room Feeder (loose-meaning x) (h .call .0 .1 .roomy) → loose-meaning y ≡ waits words (store a w ∷ [])
+      room (loosely.Room.found l e) = h .call .0 .1 .after ∙ ap (joined Feeder (store a w)) (e ∙ m)
       room (loosely.Room.made l o) = let k = ap (λ n. stores (line Feeder n)) m in absurd (omega (arith, l, k))
 
   landed : (a w : ℕ) (x y : Loose) → loose-meaning x ≡ waits words (store a w ∷ []) → makes loose (Land Feeder 0) x y → loose-meaning y ≡ waits (set words a w) []
-  landed a w x y m h = land (h .call)
+  landed a w x y m h = land (h .call .0)
     where
       land : Landed Feeder 0 (loose-meaning x) (loose-meaning y) → loose-meaning y ≡ waits (set words a w) []
       land (loosely.Landed.nothing i) = let k = ap (λ n. ready [] (line Feeder n)) m in absurd (omega (arith, i .none-ready, k))

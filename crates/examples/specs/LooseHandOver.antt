@@ -6,10 +6,10 @@ use lib.ListN.{length}
 use Rattle.memory.specs.declared.Memory as memory
 use Rattle.memory.specs.declared.Side.the-variants.{Feeder}
 use Rattle.memory.specs.declared.loose.Loose.{Loose}
-use Rattle.memory.specs.Loose.{loose-meaning, Loose-call}
+use Rattle.memory.specs.contracts.loose.LooseMemory.the-impl as LooseMemory
 use Rattle.words.specs.declared.edits.Edit.{Edit}
 use Rattle.words.specs.declared.kinds.Kind as kind
-use Rattle.words.specs.Words.{edit-word}
+use Rattle.words.specs.contracts.items.EditKind.the-impl as EditKind
 use Rattle.lane.specs.declared.answers.Ended.{Ended}
 use Rattle.lane.specs.declared.answers.PutAnswer.the-variants.{Accepted}
 use Rattle.lane.specs.declared.answers.TakeAnswer.the-variants.{Empty, Taken}
@@ -19,12 +19,12 @@ use Rattle.queue.specs.declared.moves.Said.{Said}
 use Rattle.queue.specs.declared.moves.Said.the-variants.{Nothing, Put, Take}
 use Rattle.queue.specs.Plays.{Played-as-promised}
 
--- the loose memory, and edits, as a play sees them
+-- the loose memory and edits, as the code has them
 abbrev pub loose : memory.Ghosts Loose
-loose = record { meaning = loose-meaning; calls = λ k x y. Loose-call k (loose-meaning x) (loose-meaning y) }
+loose = LooseMemory.ghosts
 
 abbrev pub edits : kind.Ghosts Edit
-edits = record { word = edit-word }
+edits = EditKind.ghosts
 
 -- a put, a take, a landing, and another take
 abbrev pub hand-over : Edit → List (Move Edit)
