@@ -97,10 +97,10 @@ pub impl Kind for RingNumber as RingNumberKind {
     }
 
     fn read(w: u64) -> Result<RingNumber, ItemFault> {
-        if w == 0 || w > u64::from(u32::MAX) {
+        let Ok(number) = i64::try_from(w) else {
             return Err(ItemFault::NoItem(w));
-        }
-        match RingNumber::new((w - 1) as i64) {
+        };
+        match RingNumber::new(number - 1) {
             Ok(ring) => Ok(ring),
             Err(_) => Err(ItemFault::NoItem(w)),
         }
