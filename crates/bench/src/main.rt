@@ -1,4 +1,6 @@
 //! Reads a run book from standard input and prints the listing of its run.
+#![tactic(auto)]
+
 use anyhow::anyhow;
 use book::bench_listing;
 use std::io::{Read, Write};

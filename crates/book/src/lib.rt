@@ -1,4 +1,6 @@
 //! A run book: read, checked, run and listed.
+#![tactic(auto)]
+
 mod books;
 mod choices;
 mod faults;

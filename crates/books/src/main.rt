@@ -1,4 +1,6 @@
 //! Answers a table of run books: the listing of each, as the exported function writes it.
+#![tactic(auto)]
+
 mod bytes;
 mod faults;
 

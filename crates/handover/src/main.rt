@@ -1,4 +1,6 @@
 //! Plays two hand-overs of edits and prints each call as it ended: its move, side, answer, steps and word.
+#![tactic(auto)]
+
 use lane::{Ended, PutAnswer, TakeAnswer};
 use memory::{Loose, Prompt, Side};
 use queue::{Move, Played, Said, play};

@@ -1,4 +1,6 @@
 //! Items as text to words and back: one answer for each line of standard input.
+#![tactic(auto)]
+
 mod display;
 mod kinds;
 mod lines;

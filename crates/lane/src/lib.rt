@@ -1,4 +1,6 @@
 //! A lane: rings of cells in a memory, and the steps by which its feeder and its drawer hand items over.
+#![tactic(auto)]
+
 mod answers;
 mod calls;
 mod ends;

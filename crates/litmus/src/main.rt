@@ -1,4 +1,6 @@
 //! Runs the known shapes of weak memories through every order of steps and landings, and prints which outcomes can happen.
+#![tactic(auto)]
+
 mod runs;
 mod shapes;
 

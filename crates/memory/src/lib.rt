@@ -1,4 +1,6 @@
 //! Memories whose stores wait: what a memory means, the calls that it takes, and three memories that keep its rules.
+#![tactic(auto)]
+
 ghost use Rattle.std.specs.Prelude.{◌≡◌, MatchResult};
 ghost use Rattle.memory.specs.declared.Side.{Side};
 ghost use Rattle.memory.specs.Meaning.{Meaning, Call, Size, Look, Count, Store, Bar, Land, Drain, Made, NoPlace};

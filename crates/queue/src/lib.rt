@@ -1,4 +1,6 @@
 //! The queue: any list of moves on a lane, with what is promised of it.
+#![tactic(auto)]
+
 mod laws;
 mod moves;
 mod plays;

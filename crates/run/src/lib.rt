@@ -1,4 +1,6 @@
 //! A run: moves given as bytes, made on a lane, with a log of the calls that ended.
+#![tactic(auto)]
+
 mod checks;
 pub mod faults;
 mod notes;

@@ -1,4 +1,6 @@
 //! Items and their words: what a feeder hands to a drawer, as one 64-bit word each.
+#![tactic(auto)]
+
 pub mod display;
 pub mod edits;
 pub mod faults;

@@ -12,6 +12,6 @@ returns-in-Err c = (
   λ x h.
       let b = reading_bytes x c.args.w h in
       no_reading_fault x _ _ _ _ _ (search rules) (search rules) (search rules)
-      (c.tenths-of-tenths.ensures ∙ (ap bits_temperature (search rules) ∙ bits_read x.tenths x.decreases))
+      (c.tenths_of-tenths.ensures ∙ (ap bits_temperature (search rules) ∙ bits_read x.tenths x.measured))
       c.in-Err.ensures,
 )
