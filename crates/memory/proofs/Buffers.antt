@@ -1,15 +1,14 @@
 -- The store buffer keeps the rules, above any memory that keeps them.
-use Rattle.std.proofs.Common.{◌≡◌, ℕ, zero, suc, ◌+◌, ◌-◌, ◌^◌, ◌<◌, ◌≤◌, min, Bool, true, false, cond, ltb, List, [], ◌∷◌, ◌++◌, length, get_or, drop, Some, None, Ok, Err, Option, Result, unwrap_or, sym, refl, ap, ◌∙◌, subst, append_assoc, add-one, arith, le-ltb, lt-ltb, MatchResult}
+use Rattle.std.proofs.Common.{◌≡◌, ℕ, zero, suc, ◌+◌, ◌-◌, ◌^◌, ◌<◌, ◌≤◌, min, Bool, true, cond, List, [], ◌∷◌, ◌++◌, length, get_or, drop, None, Ok, Err, Option, Result, unwrap_or, sym, refl, ap, ◌∙◌, subst, append_assoc, add-one, arith, le-ltb, lt-ltb, MatchResult}
 use Rattle.std.proofs.lemmas.List.{drop_all, drop-drop}
 use Rattle.memory.specs.declared.NoAddress.{NoAddress}
 use Rattle.memory.specs.declared.Side.{Side}
 use Rattle.memory.specs.declared.Side.TheVariants.{Feeder, Drawer}
 use Rattle.memory.specs.declared.Memory.{Ghosts}
 use Rattle.memory.specs.declared.entry.Entry.{Entry as Kept}
-use Rattle.memory.specs.declared.entry.Entry.TheVariants as Kept
 use Rattle.memory.specs.declared.buffer.Buffer.{Buffer}
 use Rattle.memory.specs.Meaning.{Entry, store, bar, Meaning, line, look, words_to, last_or, stores, joined, tidy, Call, Size, Look, Count, Store, Bar, Land, Drain, Rule, Made, NoPlace, Landings, none}
-use Rattle.memory.specs.Entries.{own, newest, through}
+use Rattle.memory.specs.Entries.{own, newest}
 use Rattle.memory.specs.Buffer.{Parts, parts, mine, with_mine, with_below, over, Does, Sent, stored, refused, SendsOne, Sends, more, Room, found, made, Joins, Looks, own_store, looks_below, Counts, LandsBelow, waits_below, no_store, sends, DrainsBelow, Stores, BufferCall, above}
 use Rattle.memory.specs.Buffer as B
 use Rattle.memory.proofs.Tidy.{tidy_front, words-++, words_tidy, last-++, stores-++, stores_tidy}

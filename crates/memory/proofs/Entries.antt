@@ -1,9 +1,8 @@
 -- What is seen and counted among the entries of a store buffer.
-use Rattle.std.proofs.Common.{◌≡◌, ℕ, zero, suc, ◌+◌, ◌<◌, ◌≤◌, Bool, true, false, cond, eqb, ltb, List, [], ◌∷◌, ◌++◌, length, get_or, take, drop, Some, None, Option, unwrap_or, sym, refl, ap, ◌∙◌, subst, zero-add, one-add, arith, ltb-false, ne_eqb, eqb-true}
+use Rattle.std.proofs.Common.{◌≡◌, ℕ, ◌+◌, ◌<◌, ◌≤◌, Bool, true, false, cond, eqb, ltb, List, [], ◌∷◌, ◌++◌, length, get_or, drop, Some, None, Option, unwrap_or, sym, refl, ap, ◌∙◌, zero-add, one-add, arith, ltb-false, ne_eqb, eqb-true}
 use borrow.Author.Tests.{eqb-false}
 use Rattle.std.proofs.lemmas.List.{drop_more, drop_all}
 use Rattle.memory.specs.declared.entry.Entry.{Entry as Kept}
-use Rattle.memory.specs.declared.entry.Entry.TheVariants as Kept
 use Rattle.memory.specs.Meaning.{Entry, store, bar, words_to, last_or, stores}
 use Rattle.memory.specs.Entries.{own, newer, newest_from, newest, is_store, through}
 

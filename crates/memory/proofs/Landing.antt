@@ -1,8 +1,8 @@
 -- What landing does to lines that go on, to sizes and to the number of stores that wait.
-use Rattle.std.proofs.Common.{◌≡◌, ℕ, ◌+◌, ◌<◌, ◌≤◌, Bool, true, false, List, [], ◌∷◌, ◌++◌, length, set, sym, refl, ap, ◌∙◌, arith, length-set}
+use Rattle.std.proofs.Common.{◌≡◌, ℕ, ◌+◌, ◌≤◌, Bool, true, false, List, [], ◌∷◌, ◌++◌, length, sym, refl, ap, ◌∙◌, arith, length-set}
 use Rattle.memory.specs.declared.Side.{Side}
 use Rattle.memory.specs.declared.Side.TheVariants.{Feeder, Drawer}
-use Rattle.memory.specs.Meaning.{Entry, store, bar, Meaning, line, with_line, with_word, tidy, tidy_from, joined, stores, Out, here, past, Lands, Landings, none, next}
+use Rattle.memory.specs.Meaning.{Entry, store, Meaning, line, with_line, with_word, tidy, tidy_from, joined, stores, Out, here, past, Lands, Landings, none, next}
 use Rattle.memory.proofs.Tidy.{tidy_store, tidy_more, tidy_front, stores_tidy}
 
 -- the line of side s goes on with k

@@ -1,6 +1,6 @@
 -- What storing, looking and taking out do to the line that a table of waiting stores stands for.
-use Rattle.std.proofs.Common.{◌≡◌, ℕ, zero, suc, ◌+◌, ◌-◌, ◌<◌, ◌≤◌, Bool, true, false, cond, eqb, List, [], ◌∷◌, ◌++◌, length, get_or, take, drop, sym, refl, ap, ◌∙◌, subst, append_assoc, add-zero, add_assoc, zero-add, add-one, one-add, arith, eq-eqb}
-use Rattle.std.proofs.lemmas.List.{append-nil, take_more, take_all, length-append}
+use Rattle.std.proofs.Common.{◌≡◌, ℕ, ◌+◌, ◌<◌, ◌≤◌, Bool, true, false, cond, eqb, List, [], ◌∷◌, ◌++◌, length, get_or, take, drop, sym, refl, ap, ◌∙◌, append_assoc, add-zero, add_assoc, zero-add, one-add, arith, eq-eqb}
+use Rattle.std.proofs.lemmas.List.{append-nil, take_more, take_all}
 use Rattle.memory.specs.declared.line.Waiting.{Waiting}
 use Rattle.memory.specs.Meaning.{Entry, store, bar, tidy, tidy_from, words_to, last_or, stores, Out, here, past}
 use Rattle.memory.specs.Table.{Removed}

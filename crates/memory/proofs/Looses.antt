@@ -1,5 +1,5 @@
 -- The loose memory keeps the rules.
-use Rattle.std.proofs.Common.{◌≡◌, ℕ, ◌+◌, ◌%◌, ◌<◌, ◌≤◌, Bool, true, false, cond, List, [], ◌∷◌, ◌++◌, length, set, sym, refl, ap, ◌∙◌, subst, arith}
+use Rattle.std.proofs.Common.{◌≡◌, ℕ, ◌+◌, ◌<◌, Bool, true, false, List, [], ◌∷◌, ◌++◌, set, sym, refl, ap, ◌∙◌, subst, arith}
 use native.Mathlib.Nat.{min-eq_left, zero-mod}
 use Rattle.memory.specs.declared.Side.{Side}
 use Rattle.memory.specs.declared.Side.TheVariants.{Feeder, Drawer}
@@ -8,7 +8,7 @@ use Rattle.memory.specs.Meaning.{Entry, store, bar, Meaning, line, with_line, wi
 use Rattle.memory.specs.Owner.{SameWords}
 use Rattle.memory.specs.Table.{held}
 use Rattle.memory.specs.Line.{entries_of, free, ready, TakenOut}
-use Rattle.memory.specs.Loose.{loose_meaning, Idle, Picked, Oldest, Landed, nothing, one, Room, found, made, Stored, after_all, all_landed, drained, LooseCall}
+use Rattle.memory.specs.Loose.{loose_meaning, Picked, Oldest, Landed, nothing, one, Room, found, made, Stored, after_all, all_landed, drained, LooseCall}
 use Rattle.memory.proofs.Tidy.{tidy_again, tidy_more}
 use Rattle.memory.proofs.Lines.{out_free}
 use Rattle.memory.proofs.Landing.{landings_on, landings_join, lands_fewer}

@@ -1,7 +1,7 @@
 -- Which store number k is, is fixed by the line: what the loose memory lands of two waiting stores.
-use Rattle.std.proofs.Common.{◌≡◌, ℕ, ◌+◌, ◌<◌, Bool, true, false, cond, List, [], ◌∷◌, ◌++◌, set, sym, refl, ap, ◌∙◌, append_assoc, arith}
+use Rattle.std.proofs.Common.{◌≡◌, ℕ, ◌+◌, Bool, true, cond, List, [], ◌∷◌, ◌++◌, set, sym, refl, ap, ◌∙◌, append_assoc, arith}
 use Rattle.std.proofs.lemmas.List.{append-nil}
-use Rattle.memory.specs.declared.Side.TheVariants.{Feeder, Drawer}
+use Rattle.memory.specs.declared.Side.TheVariants.{Feeder}
 use Rattle.memory.specs.Meaning.{Entry, store, bar, Meaning, tidy, Land}
 use Rattle.memory.specs.Line.{free, ready, TakenOut}
 use Rattle.memory.specs.Loose.{nothing, one, LooseCall}

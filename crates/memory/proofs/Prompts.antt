@@ -1,8 +1,8 @@
 -- The prompt memory keeps the rules.
-use Rattle.std.proofs.Common.{◌≡◌, ℕ, ◌<◌, List, [], set, sym, refl, ap, subst, arith}
+use Rattle.std.proofs.Common.{◌≡◌, ℕ, List, [], set, sym, refl, ap, subst, arith}
 use Rattle.memory.specs.declared.Side.{Side}
 use Rattle.memory.specs.declared.Side.TheVariants.{Feeder, Drawer}
-use Rattle.memory.specs.Meaning.{Meaning, Call, Size, Look, Count, Store, Bar, Land, Drain, Rule, Landings, none, next, here, joined, store, bar, line, stores}
+use Rattle.memory.specs.Meaning.{Call, Size, Look, Count, Store, Bar, Land, Drain, Rule, Landings, none, next, here, joined, store, bar, line, stores}
 use Rattle.memory.specs.Prompt.{quiet, PromptCall}
 
 bar_drops : (s : Side) (v : List ℕ) → Landings (joined s bar (quiet v)) (quiet v)

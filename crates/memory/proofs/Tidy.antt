@@ -1,6 +1,6 @@
 -- Lines without the bars that hold nothing back.
 use Rattle.std.proofs.Common.{◌≡◌, ℕ, ◌+◌, Bool, true, false, cond, eqb, List, [], ◌∷◌, ◌++◌, sym, refl, ap, ◌∙◌, add_assoc, zero-add}
-use Rattle.memory.specs.Meaning.{Entry, store, bar, tidy, tidy_from, words_to, last_or, stores}
+use Rattle.memory.specs.Meaning.{Entry, store, bar, tidy_from, words_to, last_or, stores}
 
 -- whether a bar at the end of l would hold nothing back
 abbrev pub idle : Bool → List Entry → Bool

@@ -3,7 +3,6 @@ use Rattle.std.specs.Prelude.{◌≡◌, ℕ, suc, ◌+◌, ◌-◌, ◌^◌, �
 use Rattle.memory.specs.declared.Side.{Side}
 use Rattle.memory.specs.declared.Side.TheVariants.{Feeder, Drawer}
 use Rattle.memory.specs.declared.entry.Entry.{Entry as Kept}
-use Rattle.memory.specs.declared.entry.Entry.TheVariants as Kept
 use Rattle.memory.specs.declared.buffer.Buffer.{Buffer}
 use Rattle.memory.specs.declared.Memory.{Ghosts}
 use Rattle.memory.specs.Meaning.{Meaning, stores, tidy, Made, Call, Size, Look, Count, Store, Bar, Land, Drain}

@@ -1,7 +1,6 @@
 -- What the entries of a store buffer are: each a store or a bar that was called, oldest first.
-use Rattle.std.specs.Prelude.{ℕ, ◌+◌, Bool, true, false, cond, List, [], ◌∷◌, Some, None, Option, ◌==◌, nat_lt}
+use Rattle.std.specs.Prelude.{ℕ, ◌+◌, Bool, false, cond, List, [], ◌∷◌, Some, None, Option, ◌==◌, nat_lt}
 use Rattle.memory.specs.declared.entry.Entry.{Entry as Kept}
-use Rattle.memory.specs.declared.entry.Entry.TheVariants as Kept
 use Rattle.memory.specs.Meaning.{Entry, store, bar}
 
 -- what the entries add to a line of a memory of n words; a store to no address of it adds nothing

@@ -1,7 +1,7 @@
 -- What follows from the rules for any memory, and what the loose memory makes of two waiting stores.
 use Rattle.std.specs.Prelude.{◌≡◌, ℕ, ◌<◌, List, [], ◌∷◌, length, slice_index}
 use Rattle.memory.specs.declared.Side.{Side}
-use Rattle.memory.specs.declared.Side.TheVariants.{Feeder, Drawer}
+use Rattle.memory.specs.declared.Side.TheVariants.{Feeder}
 use Rattle.memory.specs.Meaning.{Entry, store, bar, Meaning, line, Lands, Call, Land, Rule}
 use Rattle.memory.specs.Loose.{LooseCall}
 

@@ -1,11 +1,11 @@
 -- The bytes of an item's word, and that they tell the item.
-use Rattle.std.specs.Prelude.{◌≡◌, ℕ, ◌+◌, ◌*◌, ◌/◌, ◌%◌, ◌^◌, ◌<◌, ◌≤◌, false, cond, List, [], ◌∷◌, ℤ, pos, Some, None, Option, FitsSigned, ◌==◌, nat_eq, refl}
+use Rattle.std.specs.Prelude.{◌≡◌, ℕ, ◌/◌, ◌%◌, ◌^◌, ◌<◌, false, List, [], ◌∷◌, ℤ, pos, Some, None, Option, FitsSigned, ◌==◌, nat_eq, refl}
 use Rattle.std.proofs.Common.{⊎_elim, sym, ap, ◌∙◌, arith, of_z, to_z, ne_eqb}
 use Rattle.std.specs.Int.{w16}
 use Rattle.std.proofs.lemmas.Int.{ints, to_z-of_z}
 use Rattle.std.proofs.lemmas.Bool.{cond-false}
 use Rattle.words.specs.declared.edits.Edit.{Edit}
-use Rattle.words.specs.declared.parts.Part.TheVariants.{Temperature, Value}
+use Rattle.words.specs.declared.parts.Part.TheVariants.{Value}
 use Rattle.words.specs.declared.readings.Reading.{Reading}
 use Rattle.words.specs.declared.rings.RingNumber.{RingNumber}
 use Rattle.words.specs.declared.settings.Setting.{Setting}

@@ -4,15 +4,15 @@ use Rattle.book.proofs.books.run_book.Goals as goal
 pub stopped-requires : goal.stopped-requires
 stopped-requires c =
     let k = c.in-Ok.ensures in
-    stop_within c.args.book.now c.in-Ok.plan k.planned k.judged c.in-Ok-run-plan.tally c.run-plan.new.log c.in-Ok-run-plan.ensures
+    stop_within c.args.book.now c.in-Ok.plan k.planned k.judged c.in-Ok-run_plan.tally c.run_plan.new.log c.in-Ok-run_plan.ensures
 
 pub refused-requires : goal.refused-requires
 refused-requires c =
     let k = c.in-Ok.ensures in
-    fault_within c.args.book.now c.in-Ok.plan k.planned k.judged c.in-Err-run-plan.fault c.run-plan.new.log c.in-Err-run-plan.ensures
+    fault_within c.args.book.now c.in-Ok.plan k.planned k.judged c.in-Err-run_plan.fault c.run_plan.new.log c.in-Err-run_plan.ensures
 
-pub returns-in-Ok-run-plan : goal.returns-in-Ok-run-plan
-returns-in-Ok-run-plan c =
+pub returns-in-Ok-run_plan : goal.returns-in-Ok-run_plan
+returns-in-Ok-run_plan c =
     let k = c.in-Ok.ensures in
-    let l = ran c.args.book.now c.in-Ok.plan k.planned k.judged c.in-Ok-run-plan.tally c.in-Ok-run-plan.ensures c.stopped.ensures.calls c.stopped.ensures.end in
+    let l = ran c.args.book.now c.in-Ok.plan k.planned k.judged c.in-Ok-run_plan.tally c.in-Ok-run_plan.ensures c.stopped.ensures.calls c.stopped.ensures.end in
     record { few = l.few; early = l.early; outcome = l.outcome }

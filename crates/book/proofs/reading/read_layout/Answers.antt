@@ -2,11 +2,11 @@ use Rattle.std.proofs.lemmas.Result.{err_from_is_err_and}
 use Rattle.book.proofs.Pairs.{pairs_refused}
 use Rattle.book.proofs.reading.read_layout.Goals as goal
 
-pub returns-in-err-check-pairs : goal.returns-in-err-check-pairs
-returns-in-err-check-pairs c =
-    let p = err_from_is_err_and c.from-residual-in-err-check-pairs.result c.from-residual-in-err-check-pairs.ensures.1 in
+pub returns-in_err-check_pairs : goal.returns-in_err-check_pairs
+returns-in_err-check_pairs c =
+    let p = err_from_is_err_and c.from_residual-in_err-check_pairs.result c.from_residual-in_err-check_pairs.ensures.1 in
     let h = c.in-Some.ensures in
     rw (p.1, p.2) record {
-      judged = pairs_refused c.args.book.now c.in-Some.header _ c.in-ok-check.ensures h.1 h.0 c.in-err-check-pairs.ensures;
+      judged = pairs_refused c.args.book.now c.in-Some.header _ c.in_ok-check.ensures h.1 h.0 c.in_err-check_pairs.ensures;
       layout = tt;
     }

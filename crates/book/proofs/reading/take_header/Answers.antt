@@ -2,17 +2,17 @@ use Rattle.std.proofs.Common.{arith}
 use Rattle.book.proofs.Pairs.{walked, header_is, third_length}
 use Rattle.book.proofs.reading.take_header.Goals as goal
 
-pub returns-in-err-moves : goal.returns-in-err-moves
-returns-in-err-moves c =
-    let s = c.in-ok-settings.ensures in
-    let w = c.in-ok-words.ensures in
+pub returns-in_err-moves : goal.returns-in_err-moves
+returns-in_err-moves c =
+    let s = c.in_ok-settings.ensures in
+    let w = c.in_ok-words.ensures in
     let k = walked c.args.book.now _ _ s.1 w.1 in
-    rw c.from-residual-in-err-moves.ensures (omega (arith, third_length k, c.in-err-moves.ensures))
+    rw c.from_residual-in_err-moves.ensures (omega (arith, third_length k, c.in_err-moves.ensures))
 
 pub returns : goal.returns
 returns c =
-    let s = c.in-ok-settings.ensures in
-    let w = c.in-ok-words.ensures in
-    let m = c.in-ok-moves.ensures in
+    let s = c.in_ok-settings.ensures in
+    let w = c.in_ok-words.ensures in
+    let m = c.in_ok-moves.ensures in
     let k = walked c.args.book.now _ _ s.1 w.1 in
     (header_is k s.0 w.0 m.0, omega (arith, third_length k))

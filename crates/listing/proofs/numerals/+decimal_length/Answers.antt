@@ -9,5 +9,5 @@ pub returns-else-n-lt10 : goal.returns-else-n-lt10
 returns-else-n-lt10 t c =
     let e = one_more c.args.n c.if-n-lt10.false (omega arith) in
     let f = few c.args.n (omega arith) in
-    let h = c.decimal-length.ensures.counted in
+    let h = c.decimal_length.ensures.counted in
     record { counted = omega arith; few = (omega arith, omega arith) }

@@ -5,11 +5,11 @@ use Rattle.memory.proofs.entry.through_store.Goals as goal
 pub loop-i-init : goal.loop-i-init
 loop-i-init c = through_start c.args.size c.args.entries.now
 
-pub returns-then-stores-below : goal.returns-then-stores-below
-returns-then-stores-below c = record { first = through_found c.args.entries.now c.loop-i.i c.args.size _ (omega arith) refl (sym c.stores-below.ensures ∙ c.if-stores-below.true) c.loop-i.invariant; few = omega arith }
+pub returns-then-stores_below : goal.returns-then-stores_below
+returns-then-stores_below c = record { first = through_found c.args.entries.now c.loop-i.i c.args.size _ (omega arith) refl (sym c.stores_below.ensures ∙ c.if-stores_below.true) c.loop-i.invariant; few = omega arith }
 
 pub loop-i-preserved : goal.loop-i-preserved
-loop-i-preserved c = through_past c.args.entries.now c.loop-i.i c.args.size _ (omega arith) refl (sym c.stores-below.ensures ∙ c.if-stores-below.false) c.loop-i.invariant
+loop-i-preserved c = through_past c.args.entries.now c.loop-i.i c.args.size _ (omega arith) refl (sym c.stores_below.ensures ∙ c.if-stores_below.false) c.loop-i.invariant
 
 pub returns : goal.returns
 returns c = record { first = through_all c.args.entries.now c.loop-i.i c.args.size (omega arith) c.loop-i.invariant; few = omega arith }

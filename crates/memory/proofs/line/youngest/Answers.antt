@@ -1,4 +1,4 @@
-use Rattle.std.proofs.Common.{◌≡◌, ℕ, Bool, cond, get_or, Option, unwrap_or, sym, ap, ◌∙◌, arith, eq-eqb, ne_eqb}
+use Rattle.std.proofs.Common.{ℕ, Bool, cond, get_or, Option, unwrap_or, sym, ap, ◌∙◌, arith, eq-eqb, ne_eqb}
 use Rattle.memory.specs.Line.{blank}
 use Rattle.memory.proofs.Lines.{seen_in, seen_more, seen_all}
 use Rattle.memory.proofs.line.youngest.Goals as goal

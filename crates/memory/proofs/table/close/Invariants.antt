@@ -1,4 +1,4 @@
-use Rattle.std.proofs.Common.{◌≡◌, ◌+◌, ◌-◌, ◌<◌, ◌≤◌, ◌++◌, length, take, drop}
+use Rattle.std.proofs.Common.{◌<◌, ◌≤◌}
 use Rattle.memory.proofs.table.close.Given as goal
 use Rattle.memory.proofs.Tables.{ClosedTo}
 

@@ -7,9 +7,9 @@ use Rattle.queue.proofs.plays.make_all.Goals as goal
 pub loop-i-init : goal.loop-i-init
 loop-i-init g c = (noted_none g.M.Memory g.K.Kind _ _, c.requires, omega arith, omega arith, refl)
 
-pub returns-in-default : goal.returns-in-default
-returns-in-default g c =
-    absurd (made_in_room g.M.Memory g.K.Kind c.loop-i.invariant.1 (MatchResult-at_err _ _ _ c.in-default.is c.make-next.ensures))
+pub returns-in_default : goal.returns-in_default
+returns-in_default g c =
+    absurd (made_in_room g.M.Memory g.K.Kind c.loop-i.invariant.1 (MatchResult-at_err _ _ _ c.in_default.is c.make-next.ensures))
 
 pub loop-i-preserved : goal.loop-i-preserved
 loop-i-preserved g c =

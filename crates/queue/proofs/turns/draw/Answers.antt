@@ -3,18 +3,18 @@ use Rattle.lane.specs.Stages.{putting}
 use Rattle.queue.proofs.Histories.{take_stays, take_aside, drawn_turn}
 use Rattle.queue.proofs.turns.draw.Goals as goal
 
-pub draw-step-end-requires : goal.draw-step-end-requires
-draw-step-end-requires g c =
+pub draw_step-end-requires : goal.draw_step-end-requires
+draw_step-end-requires g c =
     let t = c.in-Ok.ensures in
     let s = take_stays t.1 in
     (t.0 ∙ sym s.number, s.busy)
 
-pub invariant-of-result-2 : goal.invariant-of-result-2
-invariant-of-result-2 g c =
+pub invariant_of-result-2 : goal.invariant_of-result-2
+invariant_of-result-2 g c =
     let s = take_stays c.in-Ok.ensures.1 in
-    let p = take_aside g.M.Memory g.K.Kind c.draw-step-end.result.said _ _ c.draw-step-end.ensures.step in
+    let p = take_aside g.M.Memory g.K.Kind c.draw_step-end.result.said _ _ c.draw_step-end.ensures.step in
     let f = c.args.play.feeder_fits in
-    ((f.0 ∙ sym s.number ∙ sym p.0, f.1 ∙ sym (ap (λ e. putting e.stage) (p.1 ∙ s.feeder))), (c.draw-step-end.ensures.fits, tt))
+    ((f.0 ∙ sym s.number ∙ sym p.0, f.1 ∙ sym (ap (λ e. putting e.stage) (p.1 ∙ s.feeder))), (c.draw_step-end.ensures.fits, tt))
 
 pub returns : goal.returns
-returns g c = drawn_turn g.M.Memory g.K.Kind c.draw-step-end.result.said _ c.in-Ok.ensures.1 c.draw-step-end.ensures.step
+returns g c = drawn_turn g.M.Memory g.K.Kind c.draw_step-end.result.said _ c.in-Ok.ensures.1 c.draw_step-end.ensures.step

@@ -3,18 +3,18 @@ use Rattle.lane.specs.Stages.{taking}
 use Rattle.queue.proofs.Histories.{put_stays, put_aside, fed_turn}
 use Rattle.queue.proofs.turns.feed.Goals as goal
 
-pub feed-step-end-requires : goal.feed-step-end-requires
-feed-step-end-requires g c =
+pub feed_step-end-requires : goal.feed_step-end-requires
+feed_step-end-requires g c =
     let t = c.in-Ok.ensures in
     let s = put_stays t.1 in
     (t.0 ∙ sym s.number, s.busy)
 
-pub invariant-of-result-2 : goal.invariant-of-result-2
-invariant-of-result-2 g c =
+pub invariant_of-result-2 : goal.invariant_of-result-2
+invariant_of-result-2 g c =
     let s = put_stays c.in-Ok.ensures.1 in
-    let p = put_aside g.M.Memory g.K.Kind c.feed-step-end.result.said _ _ c.feed-step-end.ensures.step in
+    let p = put_aside g.M.Memory g.K.Kind c.feed_step-end.result.said _ _ c.feed_step-end.ensures.step in
     let d = c.args.play.drawer_fits in
-    (c.feed-step-end.ensures.fits, ((d.0 ∙ sym s.number ∙ sym p.0, d.1 ∙ sym (ap (λ e. taking e.stage) (p.1 ∙ s.drawer))), tt))
+    (c.feed_step-end.ensures.fits, ((d.0 ∙ sym s.number ∙ sym p.0, d.1 ∙ sym (ap (λ e. taking e.stage) (p.1 ∙ s.drawer))), tt))
 
 pub returns : goal.returns
-returns g c = fed_turn g.M.Memory g.K.Kind c.feed-step-end.result.said _ c.in-Ok.ensures.1 c.feed-step-end.ensures.step
+returns g c = fed_turn g.M.Memory g.K.Kind c.feed_step-end.result.said _ c.in-Ok.ensures.1 c.feed_step-end.ensures.step

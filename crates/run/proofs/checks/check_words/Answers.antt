@@ -10,7 +10,7 @@ returns-in-Err g c =
     record { within = c.loop-index-test.true; no_item = e.1; names = e.0; before = c.loop-index.invariant }
 
 pub loop-index-preserved : goal.loop-index-preserved
-loop-index-preserved g c = spelled_more g.K.Kind c.args.words.now c.loop-index.index c.in-default.field-0 c.loop-index-test.true c.in-default.ensures c.loop-index.invariant
+loop-index-preserved g c = spelled_more g.K.Kind c.args.words.now c.loop-index.index c.in_default.field-0 c.loop-index-test.true c.in_default.ensures c.loop-index.invariant
 
 pub returns : goal.returns
 returns g c = spelled_all g.K.Kind c.args.words.now c.loop-index.index c.loop-index-test.false c.loop-index.invariant

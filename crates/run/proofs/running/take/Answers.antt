@@ -2,8 +2,8 @@ use Rattle.std.proofs.Common.{sym, ◌∙◌, leb-false, leb-true}
 use Rattle.run.proofs.Moving.{take_full, take_comes}
 use Rattle.run.proofs.running.take.Goals as goal
 
-pub returns-then-is-full : goal.returns-then-is-full
-returns-then-is-full g c = take_full g.M.Memory g.K.Kind c.args.words.now c.args.index _ c.args.counts c.args.log.now (leb-true _ _ (sym c.is-full.ensures ∙ c.if-is-full.true))
+pub returns-then-is_full : goal.returns-then-is_full
+returns-then-is_full g c = take_full g.M.Memory g.K.Kind c.args.words.now c.args.index _ c.args.counts c.args.log.now (leb-true _ _ (sym c.is_full.ensures ∙ c.if-is_full.true))
 
 pub returns : goal.returns
-returns g c = take_comes g.M.Memory g.K.Kind c.args.words.now c.args.index _ c.args.counts c.args.log.now c.note-take-counts.result _ _ (leb-false _ _ (sym c.is-full.ensures ∙ c.if-is-full.false)) c.draw-play.ensures c.note-take-counts.ensures
+returns g c = take_comes g.M.Memory g.K.Kind c.args.words.now c.args.index _ c.args.counts c.args.log.now c.note_take-counts.result _ _ (leb-false _ _ (sym c.is_full.ensures ∙ c.if-is_full.false)) c.draw-play.ensures c.note_take-counts.ensures

@@ -9,11 +9,11 @@ use Rattle.run.proofs.runs.make_moves.Goals as goal
 pub loop-index-init : goal.loop-index-init
 loop-index-init g c = (run_none g.M.Memory g.K.Kind _ _ _ c.requires.0, omega arith, refl)
 
-pub returns-in-default : goal.returns-in-default
-returns-in-default g c = made_to_unknown g.M.Memory g.K.Kind c.args.moves.now c.loop-index.index c.loop-index.invariant.0 c.loop-index-test.true (sym c.in-default.ensures) c.into-memory.ensures
+pub returns-in_default : goal.returns-in_default
+returns-in_default g c = made_to_unknown g.M.Memory g.K.Kind c.args.moves.now c.loop-index.index c.loop-index.invariant.0 c.loop-index-test.true (sym c.in_default.ensures) c.into_memory.ensures
 
 pub returns-in-Err : goal.returns-in-Err
-returns-in-Err g c = made_to_stop g.M.Memory g.K.Kind c.args.moves.now c.loop-index.index c.loop-index.invariant.0 c.loop-index-test.true (sym c.in-Some.ensures) c.loop-index.invariant.2 (came_err g.M.Memory g.K.Kind _ _ _ _ _ _ _ _ c.in-Err.is c.obey-next.ensures) c.into-memory-in-Err.ensures
+returns-in-Err g c = made_to_stop g.M.Memory g.K.Kind c.args.moves.now c.loop-index.index c.loop-index.invariant.0 c.loop-index-test.true (sym c.in-Some.ensures) c.loop-index.invariant.2 (came_err g.M.Memory g.K.Kind _ _ _ _ _ _ _ _ c.in-Err.is c.obey-next.ensures) c.into_memory-in-Err.ensures
 
 pub loop-index-preserved : goal.loop-index-preserved
 loop-index-preserved g c =
@@ -23,4 +23,4 @@ loop-index-preserved g c =
     (subst (λ (b : List ℕ). RunSoFar g.M.Memory g.K.Kind (moment c.args.play.lane) c.args.words.now b c.args.log.now c.obey-next.new.log c.in-Ok.more (moment c.obey-next.result.play.lane)) (sym (take_more c.args.moves.now c.loop-index.index 0 c.loop-index-test.true)) p, omega arith, l)
 
 pub returns : goal.returns
-returns g c = made_all g.M.Memory g.K.Kind c.args.moves.now c.loop-index.index c.loop-index.invariant.0 c.loop-index-test.false c.loop-index.invariant.1 c.into-memory-2.ensures
+returns g c = made_all g.M.Memory g.K.Kind c.args.moves.now c.loop-index.index c.loop-index.invariant.0 c.loop-index-test.false c.loop-index.invariant.1 c.into_memory-2.ensures

@@ -10,129 +10,129 @@ use Rattle.lane.proofs.lanes.Lane.take_row.Goals as goal
 pub returns-in-T1-eq0 : goal.returns-in-T1-eq0
 returns-in-T1-eq0 g c =
     let i = c.in-T1-eq0 in
-    let h = c.in-ok-seen.ensures.own_seen (ap at_own i.is-0) in
+    let h = c.in_ok-seen.ensures.own_seen (ap at_own i.is-0) in
     let s = c.stand.ensures in
     taken g.M.Memory g.K.Kind (t1_bare i.is-0 (rw i.is-1 at h)) s.0 s.1
 
 pub returns-in-T3-eq0 : goal.returns-in-T3-eq0
 returns-in-T3-eq0 g c =
     let i = c.in-T3-eq0 in
-    let h = c.in-ok-seen.ensures.own_seen (ap at_own i.is-0) in
+    let h = c.in_ok-seen.ensures.own_seen (ap at_own i.is-0) in
     let s = c.stand-in-T3-eq0.ensures in
     taken g.M.Memory g.K.Kind (t3_bare i.is-0 (rw i.is-1 at h)) s.0 s.1
 
 pub returns-in-T8-eq0 : goal.returns-in-T8-eq0
 returns-in-T8-eq0 g c =
     let i = c.in-T8-eq0 in
-    let h = c.in-ok-seen.ensures.own_seen (ap at_own i.is-0) in
+    let h = c.in_ok-seen.ensures.own_seen (ap at_own i.is-0) in
     let s = c.finish-in-T8-eq0.ensures in
     taken g.M.Memory g.K.Kind (t8_bare i.is-0 (rw i.is-1 at h)) s.0 s.1
 
 pub returns-in-T1-default : goal.returns-in-T1-default
 returns-in-T1-default g c =
     let i = c.in-T1-default in
-    let h = c.in-ok-seen.ensures.own_seen (ap at_own i.is-0) in
-    taken g.M.Memory g.K.Kind (t1_found g.M.Memory g.K.Kind _ _ c.in-ok-seen.seen h (omega arith) i.is-0 c.found.ensures.found) refl refl
+    let h = c.in_ok-seen.ensures.own_seen (ap at_own i.is-0) in
+    taken g.M.Memory g.K.Kind (t1_found g.M.Memory g.K.Kind _ _ c.in_ok-seen.seen h (omega arith) i.is-0 c.found.ensures.found) refl refl
 
 pub returns-in-T3-default : goal.returns-in-T3-default
 returns-in-T3-default g c =
     let i = c.in-T3-default in
-    let h = c.in-ok-seen.ensures.own_seen (ap at_own i.is-0) in
-    taken g.M.Memory g.K.Kind (t3_found g.M.Memory g.K.Kind _ _ c.in-ok-seen.seen h (omega arith) i.is-0 c.found-in-T3-default.ensures.found) refl refl
+    let h = c.in_ok-seen.ensures.own_seen (ap at_own i.is-0) in
+    taken g.M.Memory g.K.Kind (t3_found g.M.Memory g.K.Kind _ _ c.in_ok-seen.seen h (omega arith) i.is-0 c.found-in-T3-default.ensures.found) refl refl
 
 pub returns-in-T8-default : goal.returns-in-T8-default
 returns-in-T8-default g c =
     let i = c.in-T8-default in
-    let h = c.in-ok-seen.ensures.own_seen (ap at_own i.is-0) in
-    taken g.M.Memory g.K.Kind (t8_found g.M.Memory g.K.Kind _ _ c.in-ok-seen.seen h (omega arith) i.is-0 c.found-in-T8-default.ensures.found) refl refl
+    let h = c.in_ok-seen.ensures.own_seen (ap at_own i.is-0) in
+    taken g.M.Memory g.K.Kind (t8_found g.M.Memory g.K.Kind _ _ c.in_ok-seen.seen h (omega arith) i.is-0 c.found-in-T8-default.ensures.found) refl refl
 
 pub returns-in-T4-eq0 : goal.returns-in-T4-eq0
 returns-in-T4-eq0 g c =
     let i = c.in-T4-eq0 in
-    let h = c.in-ok-seen.ensures.next_seen i.is-0 in
+    let h = c.in_ok-seen.ensures.next_seen i.is-0 in
     let s = c.finish-in-T4-eq0.ensures in
     taken g.M.Memory g.K.Kind (t4_bare i.is-0 (rw i.is-1 at h)) s.0 s.1
 
 pub returns-in-T6-default : goal.returns-in-T6-default
 returns-in-T6-default g c =
     let i = c.in-T6-default in
-    let e = c.in-ok-seen.ensures.blind (ap take_looks i.is-0) in
+    let e = c.in_ok-seen.ensures.blind (ap take_looks i.is-0) in
     let h = c.bar.ensures in
     let s = c.stand-in-T6-default.ensures in
     taken g.M.Memory g.K.Kind (t6 i.n i.is-0 (rw e at h)) s.0 s.1
 
-pub returns-in-err-seen : goal.returns-in-err-seen
-returns-in-err-seen g c = let p = err_from_is_err_and c.from-residual.result c.from-residual.ensures.1 in let e = c.in-err-seen.ensures in rw (p.1, p.2) record { memory_small = e; after = refl }
+pub returns-in_err-seen : goal.returns-in_err-seen
+returns-in_err-seen g c = let p = err_from_is_err_and c.from_residual.result c.from_residual.ensures.1 in let e = c.in_err-seen.ensures in rw (p.1, p.2) record { memory_small = e; after = refl }
 
 pub returns-in-Idle-default : goal.returns-in-Idle-default
 returns-in-Idle-default g c =
     let i = c.in-Idle-default in
-    let e = c.in-ok-seen.ensures.blind (ap take_looks i.is-0) in
+    let e = c.in_ok-seen.ensures.blind (ap take_looks i.is-0) in
     rw e (λ b. b i.is-0, refl)
 
 pub returns-in-Some : goal.returns-in-Some
 returns-in-Some g c =
     let i = c.in-T2-default in
-    let h = c.in-ok-seen.ensures.mark_seen i.is-0 in
-    let r = rw c.in-Some.is at c.ring-of.ensures in
+    let h = c.in_ok-seen.ensures.mark_seen i.is-0 in
+    let r = rw c.in-Some.is at c.ring_of.ensures in
     let s = c.finish.ensures in
     taken g.M.Memory g.K.Kind (t2_own i.is-0 (rw (r.1, c.if-n-own.true) at h)) s.0 s.1
 
 pub returns-in-Some-2 : goal.returns-in-Some-2
 returns-in-Some-2 g c =
     let i = c.in-T2-default in
-    let h = c.in-ok-seen.ensures.mark_seen i.is-0 in
-    let r = rw c.in-Some.is at c.ring-of.ensures in
+    let h = c.in_ok-seen.ensures.mark_seen i.is-0 in
+    let r = rw c.in-Some.is at c.ring_of.ensures in
     let s = c.stand-in-Some-2.ensures in
     taken g.M.Memory g.K.Kind (t2_other c.in-Some.n i.is-0 (rw r.1 at h) r.0 c.if-n-own.false) s.0 s.1
 
 pub returns-in-None : goal.returns-in-None
 returns-in-None g c =
     let i = c.in-T2-default in
-    let h = c.in-ok-seen.ensures.mark_seen i.is-0 in
-    let r = rw c.in-None.is at c.ring-of.ensures in
+    let h = c.in_ok-seen.ensures.mark_seen i.is-0 in
+    let r = rw c.in-None.is at c.ring_of.ensures in
     let s = c.finish-in-None.ensures in
-    taken g.M.Memory g.K.Kind (t2_odd c.in-ok-seen.seen i.is-0 h r) s.0 s.1
+    taken g.M.Memory g.K.Kind (t2_odd c.in_ok-seen.seen i.is-0 h r) s.0 s.1
 
-pub returns-in-Some-ring-of : goal.returns-in-Some-ring-of
-returns-in-Some-ring-of g c =
+pub returns-in-Some-ring_of : goal.returns-in-Some-ring_of
+returns-in-Some-ring_of g c =
     let i = c.in-T4-default in
-    let h = c.in-ok-seen.ensures.next_seen i.is-0 in
-    let r = rw c.in-Some-ring-of.is at c.ring-of-in-T4-default.ensures in
-    let s = c.stand-in-Some-ring-of.ensures in
-    taken g.M.Memory g.K.Kind (t4_ring c.in-Some-ring-of.n i.is-0 (rw r.1 at h) r.0) s.0 s.1
+    let h = c.in_ok-seen.ensures.next_seen i.is-0 in
+    let r = rw c.in-Some-ring_of.is at c.ring_of-in-T4-default.ensures in
+    let s = c.stand-in-Some-ring_of.ensures in
+    taken g.M.Memory g.K.Kind (t4_ring c.in-Some-ring_of.n i.is-0 (rw r.1 at h) r.0) s.0 s.1
 
-pub returns-in-None-ring-of : goal.returns-in-None-ring-of
-returns-in-None-ring-of g c =
+pub returns-in-None-ring_of : goal.returns-in-None-ring_of
+returns-in-None-ring_of g c =
     let i = c.in-T4-default in
-    let h = c.in-ok-seen.ensures.next_seen i.is-0 in
-    let r = rw c.in-None-ring-of.is at c.ring-of-in-T4-default.ensures in
-    let s = c.finish-in-None-ring-of.ensures in
-    taken g.M.Memory g.K.Kind (t4_odd c.in-ok-seen.seen i.is-0 h (omega arith) r) s.0 s.1
+    let h = c.in_ok-seen.ensures.next_seen i.is-0 in
+    let r = rw c.in-None-ring_of.is at c.ring_of-in-T4-default.ensures in
+    let s = c.finish-in-None-ring_of.ensures in
+    taken g.M.Memory g.K.Kind (t4_odd c.in_ok-seen.seen i.is-0 h (omega arith) r) s.0 s.1
 
-pub returns-in-ok-self : goal.returns-in-ok-self
-returns-in-ok-self g c =
+pub returns-in_ok-self : goal.returns-in_ok-self
+returns-in_ok-self g c =
     let i = c.in-T5-default in
-    let e = c.in-ok-seen.ensures.blind (ap take_looks i.is-0) in
-    let h = c.in-ok-self.ensures in
+    let e = c.in_ok-seen.ensures.blind (ap take_looks i.is-0) in
+    let h = c.in_ok-self.ensures in
     let k = h.call in
     let s = c.stand-in-T5-default.ensures in
     taken g.M.Memory g.K.Kind (t5 i.n i.is-0 (rw e at k)) (s.0 ∙ ap (λ p. drawer_to c.args.self.now.drawer (take.T6 i.n) p) h.moved) s.1
 
-pub returns-in-ok-self-2 : goal.returns-in-ok-self-2
-returns-in-ok-self-2 g c =
+pub returns-in_ok-self-2 : goal.returns-in_ok-self-2
+returns-in_ok-self-2 g c =
     let i = c.in-T7-default in
-    let e = c.in-ok-seen.ensures.blind (ap take_looks i.is-0) in
-    let h = c.in-ok-self-2.ensures in
+    let e = c.in_ok-seen.ensures.blind (ap take_looks i.is-0) in
+    let h = c.in_ok-self-2.ensures in
     let k = h.call in
     let s = c.stand-in-T7-default.ensures in
-    taken g.M.Memory g.K.Kind (t7 i.n i.is-0 (rw (e, c.word-of.ensures) at k)) (s.0 ∙ ap (λ p. drawer_to c.args.self.now.drawer take.T8 (ring_is i.n p)) h.moved) s.1
+    taken g.M.Memory g.K.Kind (t7 i.n i.is-0 (rw (e, c.word_of.ensures) at k)) (s.0 ∙ ap (λ p. drawer_to c.args.self.now.drawer take.T8 (ring_is i.n p)) h.moved) s.1
 
-pub returns-in-ok-self-3 : goal.returns-in-ok-self-3
-returns-in-ok-self-3 g c =
+pub returns-in_ok-self-3 : goal.returns-in_ok-self-3
+returns-in_ok-self-3 g c =
     let i = c.in-T9-default in
-    let e = c.in-ok-seen.ensures.blind (ap take_looks i.is-0) in
-    let h = c.in-ok-self-3.ensures in
+    let e = c.in_ok-seen.ensures.blind (ap take_looks i.is-0) in
+    let h = c.in_ok-self-3.ensures in
     let k = h.call in
     let s = c.finish-in-T9-default.ensures in
     taken g.M.Memory g.K.Kind (t9 i.item i.is-0 (rw e at k)) (s.0 ∙ ap (drawer_done c.args.self.now.drawer) h.moved) s.1

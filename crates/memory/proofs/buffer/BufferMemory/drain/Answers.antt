@@ -3,4 +3,4 @@ use Rattle.memory.proofs.Buffers.{buffer_made}
 use Rattle.memory.proofs.buffer.BufferMemory.drain.Goals as goal
 
 pub returns : goal.returns
-returns g c = buffer_made g.M.Memory Drain c.args.self.now c.drain-below.new.self c.drain-below.ensures
+returns g c = buffer_made g.M.Memory Drain c.args.self.now c.drain_below.new.self c.drain_below.ensures

@@ -3,4 +3,4 @@ use Rattle.memory.proofs.Looses.{loose_made}
 use Rattle.memory.proofs.loose.LooseMemory.land.Goals as goal
 
 pub returns : goal.returns
-returns c = loose_made (Land c.args.side c.args.pick) c.args.self.now c.land-one.new.self c.land-one.ensures.means c.land-one.ensures.owner
+returns c = loose_made (Land c.args.side c.args.pick) c.args.self.now c.land_one.new.self c.land_one.ensures.means c.land_one.ensures.owner

@@ -4,4 +4,4 @@ use Rattle.memory.proofs.Prompts.{prompt_rules}
 use Rattle.memory.proofs.prompt.PromptMemory.bar.Goals as goal
 
 pub returns : goal.returns
-returns c = record { call = (refl, refl); rule = prompt_rules (Bar c.args.-side) _ _ (refl) }
+returns c = record { call = (refl, refl); rule = prompt_rules (Bar c.args._side) _ _ (refl) }

@@ -4,4 +4,4 @@ use Rattle.memory.proofs.Prompts.{prompt_rules}
 use Rattle.memory.proofs.prompt.PromptMemory.land.Goals as goal
 
 pub returns : goal.returns
-returns c = record { call = (refl, refl); rule = prompt_rules (Land c.args.-side c.args.-pick) _ _ (refl) }
+returns c = record { call = (refl, refl); rule = prompt_rules (Land c.args._side c.args._pick) _ _ (refl) }

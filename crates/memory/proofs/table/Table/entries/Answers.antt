@@ -1,4 +1,4 @@
-use Rattle.std.proofs.Common.{◌≡◌, sym}
+use Rattle.std.proofs.Common.{sym}
 use native.Mathlib.Nat.{sub-zero}
 use Rattle.memory.proofs.Tables.{take_count}
 use Rattle.memory.proofs.table.Table.entries.Goals as goal

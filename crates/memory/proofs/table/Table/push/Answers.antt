@@ -1,4 +1,4 @@
-use Rattle.std.proofs.Common.{List, [], ◌∷◌, ◌++◌, ap, ◌∙◌, arith}
+use Rattle.std.proofs.Common.{[], ◌∷◌, ◌++◌, ap, ◌∙◌, arith}
 use Rattle.memory.specs.Table.{held}
 use Rattle.memory.proofs.Tables.{joins_end}
 use Rattle.memory.proofs.table.Table.push.Goals as goal

@@ -1,4 +1,4 @@
-use Rattle.std.proofs.Common.{◌≡◌, arith}
+use Rattle.std.proofs.Common.{arith}
 use Rattle.memory.proofs.Tables.{removed_at}
 use Rattle.memory.proofs.table.Table.remove.Goals as goal
 

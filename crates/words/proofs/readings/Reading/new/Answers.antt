@@ -1,5 +1,5 @@
 use Rattle.std.proofs.Common.{rules}
 use Rattle.words.proofs.readings.Reading.new.Goals as goal
 
-pub invariant-of-result : goal.invariant-of-result
-invariant-of-result c = ((search rules, search rules, search rules), (search rules, tt))
+pub invariant_of-result : goal.invariant_of-result
+invariant_of-result c = record { in_range = (search rules, search rules, search rules); measured = search rules }
