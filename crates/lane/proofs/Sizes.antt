@@ -118,5 +118,5 @@ module _ {X : Type 0} (G : memory.Ghosts X) (R N : ℕ) where
   -- an opened lane has room for its words
   pub opens_room : {x y : X} → Opens G R N x y → words_of R N ≤ extent (G.meaning y)
   opens_room {x} {y} o =
-      let e = made_extent G o.second_drain ∙ (filled_size o.stores ∙ (made_extent G o.first_drain ∙ made_extent G o.openable.asked)) in
-      rw (e, ← o.openable.asked.rule.0) o.openable.enough
+      let e = made_extent G o.second_drain ∙ (filled_size o.stores ∙ (made_extent G o.first_drain ∙ made_extent G o.asked)) in
+      rw (e, ← o.asked.rule.0) o.enough

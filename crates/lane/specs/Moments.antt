@@ -1,5 +1,5 @@
 -- A lane as it is met between two steps, and what a step, a landing and a drain make of it.
-use Rattle.std.specs.Prelude.{◌≡◌, ℕ, ◌<◌, length, Option}
+use Rattle.std.specs.Prelude.{◌≡◌, ℕ, Option}
 use Rattle.memory.specs.declared.Memory as memory
 use Rattle.memory.specs.declared.Side.{Side}
 use Rattle.memory.specs.Meaning.{Land, Drain}
@@ -26,7 +26,7 @@ pub record Moment (K X : Type 0) : Type 0 where
   pub drawer : Drawer K
 
 module _ {K X : Type 0} where
-  abbrev pub moment : Lane K X → Moment K X
+  abbrev pub moment : {κ : kind.Ghosts K} {G : memory.Ghosts X} → Lane K X κ G → Moment K X
   moment l = record { number = l.number; rings = l.rings; cells = l.cells; memory = l.memory; feeder = l.feeder; drawer = l.drawer }
 
   -- m with another memory and another feeder, another drawer, or both sides as they were

@@ -1,6 +1,7 @@
 -- Opening a lane.
 use Rattle.std.specs.Prelude.{◌≡◌, ℕ, ◌+◌, ◌-◌, ◌*◌, ◌<◌, ◌≤◌, cond, replicate, ◌==◌, nat_lt}
 use Rattle.memory.specs.declared.Memory as memory
+use Rattle.words.specs.declared.kinds.Kind as kind
 use Rattle.memory.specs.declared.Side.TheVariants as side
 use Rattle.memory.specs.Meaning.{Size, Store, Drain}
 use Rattle.lane.specs.declared.sides.Places.{Places}
@@ -9,7 +10,6 @@ use Rattle.lane.specs.declared.sides.Take.TheVariants as take
 use Rattle.lane.specs.declared.refusals.OpenRefusal.{OpenRefusal}
 use Rattle.lane.specs.declared.refusals.OpenRefusal.TheVariants.{OutOfRange, TooSmall}
 use Rattle.lane.specs.declared.openings.Opened.{Opened}
-use Rattle.lane.specs.declared.openings.NoLane.{NoLane}
 use Rattle.lane.specs.Layout.{Shaped, words_of, ring_word}
 use Rattle.lane.specs.Calls.{Makes}
 use Rattle.lane.specs.Moments.{Moment, moment}
@@ -50,7 +50,9 @@ module _ {X : Type 0} (G : memory.Ghosts X) (R N : ℕ) where
     pub sized : X
     pub drained : X
     pub filled : X
-    pub openable : Openable x sized
+    pub size : ℕ
+    pub asked : Makes G (Size size) x sized
+    pub enough : words_of R N ≤ size
     pub first_drain : Makes G Drain sized drained
     pub stores : Filled drained (words_of R N) filled
     pub second_drain : Makes G Drain filled y
@@ -61,7 +63,7 @@ module _ {X : Type 0} (G : memory.Ghosts X) (R N : ℕ) where
   Unopened TooSmall x y = Shaped R N × ((n : ℕ) × Makes G (Size n) x y × (n < words_of R N))
 
   -- a lane is opened over x, with this number, and both ends have it
-  pub record OpenedOver {K : Type 0} (number : ℕ) (x : X) (o : Opened K X) : Type 0 where
+  pub record OpenedOver {K : Type 0} {κ : kind.Ghosts K} (number : ℕ) (x : X) (o : Opened K X κ G) : Type 0 where
     pub feeder : o.feeder.lane ≡ number
     pub drawer : o.drawer.lane ≡ number
     pub shaped : Shaped R N

@@ -1,4 +1,4 @@
-use Rattle.std.proofs.Common.{◌∙◌, arith}
+use Rattle.std.proofs.Common.{◌∙◌}
 use Rattle.lane.proofs.Sizes.{made_extent}
 use Rattle.lane.proofs.lanes.Lane.open.Goals as goal
 

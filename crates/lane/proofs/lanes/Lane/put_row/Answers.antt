@@ -1,4 +1,4 @@
-use Rattle.std.proofs.Common.{◌≡◌, sym, refl, ap, ◌∙◌, subst, arith, rules}
+use Rattle.std.proofs.Common.{refl, ap, ◌∙◌, arith}
 use Rattle.std.proofs.lemmas.Result.{err_from_is_err_and}
 use Rattle.lane.specs.PutTable.{p1_bare, p1_full, p2_bare, p2_ring, p2_odd, p3, p4, p5, p6, p7, p8, feeder_to, feeder_done}
 use Rattle.lane.specs.Stages.{put_looks}
@@ -67,37 +67,37 @@ returns-in-None g c =
     let s = c.finish-in-None.ensures in
     stepped g.M.Memory g.K.Kind (p2_odd i.item c.in_ok-seen.seen i.is-0 h (omega arith) r) s.0 s.1
 
-pub returns-in_ok-self : goal.returns-in_ok-self
-returns-in_ok-self g c =
+pub returns-in_ok-self-in-P3-default : goal.returns-in_ok-self-in-P3-default
+returns-in_ok-self-in-P3-default g c =
     let i = c.in-P3-default in
     let e = c.in_ok-seen.ensures.blind (ap put_looks i.is-0) in
-    let h = c.in_ok-self.ensures in
+    let h = c.in_ok-self-in-P3-default.ensures in
     let k = h.call in
     let s = c.stand-in-P3-default.ensures in
     stepped g.M.Memory g.K.Kind (p3 i.item i.n i.is-0 (rw e at k)) (s.0 ∙ ap (λ p. feeder_to c.args.self.now.feeder (put.P4 i.item i.n) p) h.moved) s.1
 
-pub returns-in_ok-self-2 : goal.returns-in_ok-self-2
-returns-in_ok-self-2 g c =
+pub returns-in_ok-self-in-P5-default : goal.returns-in_ok-self-in-P5-default
+returns-in_ok-self-in-P5-default g c =
     let i = c.in-P5-default in
     let e = c.in_ok-seen.ensures.blind (ap put_looks i.is-0) in
-    let h = c.in_ok-self-2.ensures in
+    let h = c.in_ok-self-in-P5-default.ensures in
     let k = h.call in
     let s = c.stand-in-P5-default.ensures in
     stepped g.M.Memory g.K.Kind (p5 i.item i.n i.is-0 (rw (e, c.word_of.ensures) at k)) (s.0 ∙ ap (λ p. feeder_to c.args.self.now.feeder (put.P6 i.item i.n) p) h.moved) s.1
 
-pub returns-in_ok-store_mark : goal.returns-in_ok-store_mark
-returns-in_ok-store_mark g c =
+pub returns-in_ok-store_mark-in-P6-default : goal.returns-in_ok-store_mark-in-P6-default
+returns-in_ok-store_mark-in-P6-default g c =
     let i = c.in-P6-default in
     let e = c.in_ok-seen.ensures.blind (ap put_looks i.is-0) in
-    let h = c.in_ok-store_mark.ensures in
+    let h = c.in_ok-store_mark-in-P6-default.ensures in
     let s = c.stand-in-P6-default.ensures in
     stepped g.M.Memory g.K.Kind (p6 i.item i.n i.is-0 (rw (e, c.word_of-in-P6-default.ensures) at h)) s.0 s.1
 
-pub returns-in_ok-self-3 : goal.returns-in_ok-self-3
-returns-in_ok-self-3 g c =
+pub returns-in_ok-self-in-P8-default : goal.returns-in_ok-self-in-P8-default
+returns-in_ok-self-in-P8-default g c =
     let i = c.in-P8-default in
     let e = c.in_ok-seen.ensures.blind (ap put_looks i.is-0) in
-    let h = c.in_ok-self-3.ensures in
+    let h = c.in_ok-self-in-P8-default.ensures in
     let k = h.call in
     let s = c.finish-in-P8-default.ensures in
     stepped g.M.Memory g.K.Kind (p8 i.item i.is-0 (rw (e, c.to_word.ensures) at k)) (s.0 ∙ ap (feeder_done c.args.self.now.feeder) h.moved) s.1

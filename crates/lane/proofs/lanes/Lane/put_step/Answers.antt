@@ -1,4 +1,4 @@
-use Rattle.std.proofs.Common.{◌≡◌, sym, refl, rules}
+use Rattle.std.proofs.Common.{refl}
 use Rattle.lane.proofs.Busy.{put_busy}
 use Rattle.lane.proofs.lanes.Lane.put_step.Goals as goal
 

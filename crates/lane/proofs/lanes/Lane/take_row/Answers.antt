@@ -1,4 +1,4 @@
-use Rattle.std.proofs.Common.{◌≡◌, sym, refl, ap, ◌∙◌, arith, rules}
+use Rattle.std.proofs.Common.{refl, ap, ◌∙◌, arith}
 use Rattle.lane.specs.TakeTable.{t1_bare, t3_bare, t8_bare, t2_own, t2_other, t2_odd, t4_bare, t4_ring, t4_odd, t5, t6, t7, t9, drawer_to, drawer_done}
 use Rattle.lane.specs.Stages.{take_looks, at_own}
 use Rattle.lane.specs.declared.sides.Take.TheVariants as take
@@ -110,29 +110,29 @@ returns-in-None-ring_of g c =
     let s = c.finish-in-None-ring_of.ensures in
     taken g.M.Memory g.K.Kind (t4_odd c.in_ok-seen.seen i.is-0 h (omega arith) r) s.0 s.1
 
-pub returns-in_ok-self : goal.returns-in_ok-self
-returns-in_ok-self g c =
+pub returns-in_ok-self-in-T5-default : goal.returns-in_ok-self-in-T5-default
+returns-in_ok-self-in-T5-default g c =
     let i = c.in-T5-default in
     let e = c.in_ok-seen.ensures.blind (ap take_looks i.is-0) in
-    let h = c.in_ok-self.ensures in
+    let h = c.in_ok-self-in-T5-default.ensures in
     let k = h.call in
     let s = c.stand-in-T5-default.ensures in
     taken g.M.Memory g.K.Kind (t5 i.n i.is-0 (rw e at k)) (s.0 ∙ ap (λ p. drawer_to c.args.self.now.drawer (take.T6 i.n) p) h.moved) s.1
 
-pub returns-in_ok-self-2 : goal.returns-in_ok-self-2
-returns-in_ok-self-2 g c =
+pub returns-in_ok-self-in-T7-default : goal.returns-in_ok-self-in-T7-default
+returns-in_ok-self-in-T7-default g c =
     let i = c.in-T7-default in
     let e = c.in_ok-seen.ensures.blind (ap take_looks i.is-0) in
-    let h = c.in_ok-self-2.ensures in
+    let h = c.in_ok-self-in-T7-default.ensures in
     let k = h.call in
     let s = c.stand-in-T7-default.ensures in
     taken g.M.Memory g.K.Kind (t7 i.n i.is-0 (rw (e, c.word_of.ensures) at k)) (s.0 ∙ ap (λ p. drawer_to c.args.self.now.drawer take.T8 (ring_is i.n p)) h.moved) s.1
 
-pub returns-in_ok-self-3 : goal.returns-in_ok-self-3
-returns-in_ok-self-3 g c =
+pub returns-in_ok-self-in-T9-default : goal.returns-in_ok-self-in-T9-default
+returns-in_ok-self-in-T9-default g c =
     let i = c.in-T9-default in
     let e = c.in_ok-seen.ensures.blind (ap take_looks i.is-0) in
-    let h = c.in_ok-self-3.ensures in
+    let h = c.in_ok-self-in-T9-default.ensures in
     let k = h.call in
     let s = c.finish-in-T9-default.ensures in
     taken g.M.Memory g.K.Kind (t9 i.item i.is-0 (rw e at k)) (s.0 ∙ ap (drawer_done c.args.self.now.drawer) h.moved) s.1
