@@ -4,7 +4,7 @@ use Rattle.memory.specs.declared.Side.{Side}
 use Rattle.memory.specs.declared.Side.TheVariants.{Feeder}
 use Rattle.queue.proofs.Rounds.{eq_or, changed_there, changed_elsewhere}
 use Rattle.queue.proofs.Steps.{moved_on}
-use Rattle.queue.proofs.Views.{mine, seen, rest, ring, visit_word, mark_push}
+use Rattle.queue.proofs.Views.{mine, seen, ring, visit_word, mark_push}
 use Rattle.queue.proofs.Interface.{Interface, Frame, frame_store}
 use Rattle.queue.proofs.Addresses.{cell, next_slot, free_slot, mark, cell<, next_slot≥, next_slot<, free_slot≥, free_slot<, mark≡, mark_is, visit_word_is, visit_word_filled, ring<, moved_on_ring}
 use Rattle.queue.proofs.Core.{g_put, g_claim, g_link, g_enter, Ghost}

@@ -2,15 +2,13 @@
 use Rattle.std.proofs.Common.{◌≡◌, ℕ, suc, ◌-◌, ◌*◌, ◌<◌, List, [], ◌∷◌, ◌++◌, length, Option, sym, refl, ap, ◌∙◌, subst, subst₂, arith}
 use Rattle.memory.specs.declared.Memory as memory
 use Rattle.memory.specs.declared.Side.TheVariants.{Feeder}
-use Rattle.memory.specs.Meaning.{Meaning, Landings, Landings.next}
+use Rattle.memory.specs.Meaning.{Meaning, Landings}
 use Rattle.queue.specs.Waiting.{waiting_below}
 use Rattle.words.specs.declared.kinds.Kind as kind
 use Rattle.lane.specs.declared.sides.Put.{Put}
 use Rattle.lane.specs.declared.sides.Put.TheVariants as put
 use Rattle.lane.specs.declared.sides.Take.{Take}
 use Rattle.lane.specs.declared.sides.Take.TheVariants as take
-use Rattle.lane.specs.declared.sides.Feeder as feeder
-use Rattle.lane.specs.declared.sides.Drawer as drawer
 use Rattle.lane.specs.declared.answers.Ended.{Ended}
 use Rattle.lane.specs.declared.answers.PutAnswer.{PutAnswer}
 use Rattle.lane.specs.declared.answers.TakeAnswer.{TakeAnswer}
@@ -18,7 +16,6 @@ use Rattle.lane.specs.declared.answers.TakeAnswer.TheVariants as taking
 use Rattle.lane.specs.Layout.{Shaped}
 use Rattle.lane.specs.PutTable.{PutRow}
 use Rattle.lane.specs.TakeTable.{TakeRow}
-use Rattle.lane.specs.TakeTable as takes
 use Rattle.queue.specs.Calls.{ended}
 use Rattle.queue.specs.Waiting.{waiting}
 use Rattle.lane.specs.Moments.{Moment, PutStep, TakeStep, fed, drawn, remembering}

@@ -21,9 +21,10 @@ use Rattle.queue.specs.History.{Event, Happens, Leads}
 use Rattle.queue.specs.History as history
 use Rattle.queue.specs.Plays.{Plays}
 use Rattle.queue.specs.Plays as play
-use Rattle.queue.specs.Turns.{Begun, TakeBegins, PutTurn, TakeTurn, Turn, TurnRefused, StepRefused}
+use Rattle.queue.specs.Turns.{Turn, TurnRefused, StepRefused}
 use Rattle.queue.specs.Turns as turn
-use Rattle.queue.specs.InPlay.{Roomy, Going, Noted}
+use Rattle.queue.specs.InPlay as inplay
+use Rattle.queue.specs.InPlay.{Begun, TakeBegins, PutTurn, TakeTurn, Roomy, Going, Noted}
 
 module _ {K X : Type 0} where
   -- beginning changes one side's stage alone
@@ -36,8 +37,8 @@ module _ {K X : Type 0} where
     pub busy : n.feeder.stage ≡ put.Idle → ⊥
 
   pub put_stays : {i : K} {m n : Moment K X} → Begun i m n → PutStays m n
-  put_stays (turn.Begun.goes_on b) = record { number = refl; rings = refl; cells = refl; memory = refl; drawer = refl; busy = b }
-  put_stays {i} (turn.Begun.begins e) = record { number = refl; rings = refl; cells = refl; memory = refl; drawer = refl; busy = busy_put (put.P1 i) refl }
+  put_stays (inplay.Begun.goes_on b) = record { number = refl; rings = refl; cells = refl; memory = refl; drawer = refl; busy = b }
+  put_stays {i} (inplay.Begun.begins e) = record { number = refl; rings = refl; cells = refl; memory = refl; drawer = refl; busy = busy_put (put.P1 i) refl }
 
   pub record TakeStays (m n : Moment K X) : Type 0 where
     pub number : n.number ≡ m.number
@@ -48,8 +49,8 @@ module _ {K X : Type 0} where
     pub busy : n.drawer.stage ≡ stage.Idle → ⊥
 
   pub take_stays : {m n : Moment K X} → TakeBegins m n → TakeStays m n
-  take_stays (turn.TakeBegins.goes_on b) = record { number = refl; rings = refl; cells = refl; memory = refl; feeder = refl; busy = b }
-  take_stays (turn.TakeBegins.begins e) = record { number = refl; rings = refl; cells = refl; memory = refl; feeder = refl; busy = busy_take stage.T1 refl }
+  take_stays (inplay.TakeBegins.goes_on b) = record { number = refl; rings = refl; cells = refl; memory = refl; feeder = refl; busy = b }
+  take_stays (inplay.TakeBegins.begins e) = record { number = refl; rings = refl; cells = refl; memory = refl; feeder = refl; busy = busy_take stage.T1 refl }
 
 true_or : (b : Bool) → (b ≡ false → ⊥) → b ≡ true
 true_or true h = refl
@@ -114,12 +115,12 @@ module _ {K : Type 0} where
 
 module _ {K X : Type 0} (G : memory.Ghosts X) (κ : kind.Ghosts K) where
   fed_going : {i : K} {m n o : Moment K X} {s : Said K} → Begun i m n → PutTurn G κ n o s → Going G κ m (Feed i ∷ []) (s ∷ []) o
-  fed_going {i} {m} {n} {o} {s} (turn.Begun.goes_on b) t = subst (λ (z : Said K). Going G κ m (Feed i ∷ []) (z ∷ []) o) (sym t.says) (record { history = _; plays = play.feed_goes_on i (G.meaning m.memory) (G.meaning o.memory) t.answer play.no_move; leads = history.first (history.put_steps t.step) history.at_rest })
-  fed_going {i} {m} {n} {o} {s} (turn.Begun.begins e) t = subst (λ (z : Said K). Going G κ m (Feed i ∷ []) (z ∷ []) o) (sym t.says) (record { history = _; plays = play.feed_begins i (G.meaning m.memory) (G.meaning o.memory) t.answer play.no_move; leads = history.first (history.put_begins e refl) (history.first (history.put_steps t.step) history.at_rest) })
+  fed_going {i} {m} {n} {o} {s} (inplay.Begun.goes_on b) t = subst (λ (z : Said K). Going G κ m (Feed i ∷ []) (z ∷ []) o) (sym t.says) (record { history = _; plays = play.feed_goes_on i (G.meaning m.memory) (G.meaning o.memory) t.answer play.no_move; leads = history.first (history.put_steps t.step) history.at_rest })
+  fed_going {i} {m} {n} {o} {s} (inplay.Begun.begins e) t = subst (λ (z : Said K). Going G κ m (Feed i ∷ []) (z ∷ []) o) (sym t.says) (record { history = _; plays = play.feed_begins i (G.meaning m.memory) (G.meaning o.memory) t.answer play.no_move; leads = history.first (history.put_begins e refl) (history.first (history.put_steps t.step) history.at_rest) })
 
   drew_going : {m n o : Moment K X} {s : Said K} → TakeBegins m n → TakeTurn G κ n o s → Going G κ m (Draw ∷ []) (s ∷ []) o
-  drew_going {m} {n} {o} {s} (turn.TakeBegins.goes_on b) t = subst (λ (z : Said K). Going G κ m (Draw ∷ []) (z ∷ []) o) (sym t.says) (record { history = _; plays = play.draw_goes_on (G.meaning m.memory) (G.meaning o.memory) t.answer play.no_move; leads = history.first (history.take_steps t.step) history.at_rest })
-  drew_going {m} {n} {o} {s} (turn.TakeBegins.begins e) t = subst (λ (z : Said K). Going G κ m (Draw ∷ []) (z ∷ []) o) (sym t.says) (record { history = _; plays = play.draw_begins (G.meaning m.memory) (G.meaning o.memory) t.answer play.no_move; leads = history.first (history.take_begins e refl) (history.first (history.take_steps t.step) history.at_rest) })
+  drew_going {m} {n} {o} {s} (inplay.TakeBegins.goes_on b) t = subst (λ (z : Said K). Going G κ m (Draw ∷ []) (z ∷ []) o) (sym t.says) (record { history = _; plays = play.draw_goes_on (G.meaning m.memory) (G.meaning o.memory) t.answer play.no_move; leads = history.first (history.take_steps t.step) history.at_rest })
+  drew_going {m} {n} {o} {s} (inplay.TakeBegins.begins e) t = subst (λ (z : Said K). Going G κ m (Draw ∷ []) (z ∷ []) o) (sym t.says) (record { history = _; plays = play.draw_begins (G.meaning m.memory) (G.meaning o.memory) t.answer play.no_move; leads = history.first (history.take_begins e refl) (history.first (history.take_steps t.step) history.at_rest) })
 
   drained_going : {m n : Moment K X} → Draining G m n → Going G κ m (Drain ∷ []) (Nothing ∷ []) n
   drained_going h = record { history = _; plays = play.drain play.no_move; leads = history.first (history.draining h) history.at_rest }

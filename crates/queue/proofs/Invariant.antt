@@ -2,7 +2,7 @@
 use Rattle.std.proofs.Common.{◌≡◌, ℕ, suc, ◌+◌, ◌-◌, ◌*◌, ◌%◌, ◌<◌, ◌≤◌, sym, refl, ap, ◌∙◌, mod-lt, arith}
 use Rattle.memory.specs.declared.Side.{Side}
 use Rattle.memory.specs.declared.Side.TheVariants.{Feeder, Drawer}
-use Rattle.queue.proofs.Views.{mine, rest, ring, visit_word}
+use Rattle.queue.proofs.Views.{rest, ring, visit_word}
 use Rattle.queue.specs.Waiting.{View}
 use Rattle.queue.proofs.Interface.{Interface, Frame, frame_bar, frame_lands}
 use Rattle.queue.proofs.Addresses.{cell, next_slot, free_slot, mark, cell_is, next_slot_is, free_slot_is, visit_word_filled}

@@ -8,7 +8,7 @@ use Rattle.queue.specs.Waiting.{In, View}
 use Rattle.queue.proofs.Interface.{Interface}
 use Rattle.queue.proofs.Addresses.{cell, next_slot, free_slot, mark, cell<, cells_apart, free_slot_wraps, visit_words_apart}
 use Rattle.queue.proofs.Core.{Ghost, Core}
-use Rattle.queue.proofs.ItemStores.{mono, low}
+use Rattle.queue.proofs.ItemStores.{mono}
 use Rattle.queue.proofs.OwnLooks.{visit_of, NoneArrived, fown, down, own_full, waits_on, first_waits, Shows, Shows.oldest, Shows.waiting, Shows.over, shows}
 
 mark_seen : (R hi lo : ℕ) (x : View) (h : Marked R hi lo x) → seen Drawer x ≡ visit_word R h.from

@@ -3,7 +3,7 @@ use Rattle.std.proofs.Common.{◌≡◌, ℕ, suc, ◌+◌, ◌-◌, ◌*◌, �
 use Rattle.memory.specs.declared.Side.TheVariants.{Drawer}
 use Rattle.queue.proofs.Views.{mine, rest, Filled.rests, Vacant.rests as vrests, ring, visit_word}
 use Rattle.queue.proofs.Interface.{Interface}
-use Rattle.queue.proofs.Addresses.{cell, next_slot, free_slot, mark, cell<, next_slot_is, free_slot_is, mark_is, visit_word_is, ring<}
+use Rattle.queue.proofs.Addresses.{cell, next_slot, free_slot, cell<, next_slot_is, free_slot_is, mark_is, visit_word_is, ring<}
 use Rattle.queue.proofs.Core.{Ghost, Core}
 use Rattle.queue.proofs.Steps.{Putting.idle as pidle, Taking.idle as tidle}
 use Rattle.queue.proofs.Runs.{feeder_opened, drawer_opened}

@@ -77,11 +77,11 @@ module _ {X : Type 0} (G : memory.Ghosts X) (R N : ℕ) where
       e : Landings (G.meaning o.filled) (G.meaning y) × (line Feeder (G.meaning y) ≡ []) × (line Drawer (G.meaning y) ≡ [])
       e = o.second_drain.rule
 
-      z : (o.openable.size ≡ length (G.meaning x).landed) × (G.meaning o.sized ≡ G.meaning x)
-      z = o.openable.asked.rule
+      z : (o.size ≡ length (G.meaning x).landed) × (G.meaning o.sized ≡ G.meaning x)
+      z = o.asked.rule
 
       big : R * N + R + R < length (G.meaning o.drained).landed
-      big = let a = extent_landings d.0 in let b = ap (λ (m : Meaning). length m.landed) z.1 in omega (arith, o.openable.enough, z.0)
+      big = let a = extent_landings d.0 in let b = ap (λ (m : Meaning). length m.landed) z.1 in omega (arith, o.enough, z.0)
 
       count : words_of R N ≡ suc (R * N + R + R)
       count = omega arith

@@ -8,8 +8,8 @@ use Rattle.queue.specs.LineLaws as Laws
 use Rattle.queue.proofs.Landing.{landing_law, look_law}
 use Rattle.queue.proofs.Joining.{store_law, bar_law}
 use Rattle.queue.proofs.Quiet.{nothing_view}
-use Rattle.queue.proofs.Views.{seen, rest, ring}
-use Rattle.queue.proofs.Addresses.{cell, cell<, ring<, next_slot}
+use Rattle.queue.proofs.Views.{seen, rest}
+use Rattle.queue.proofs.Addresses.{cell<, ring<, next_slot}
 use Rattle.queue.proofs.Good.{long}
 use Rattle.queue.proofs.Invariant.{f_next_at, d_free_at}
 use Rattle.queue.proofs.Rounds.{eq_or}

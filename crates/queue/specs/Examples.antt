@@ -4,7 +4,7 @@ use Rattle.memory.specs.Meaning.{Meaning}
 use Rattle.lane.specs.declared.answers.PutAnswer.TheVariants.{Accepted, NoRing}
 use Rattle.lane.specs.declared.answers.TakeAnswer.TheVariants.{Taken, Empty}
 use Rattle.queue.specs.History.{Event, begins_put, steps_put, begins_take, steps_take, drains}
-use Rattle.queue.specs.Calls.{Sight, PutCall, TakeCall, ended, puts, takes, accepted, taken}
+use Rattle.queue.specs.Calls.{Sight, ended, puts, takes, accepted, taken}
 use Rattle.queue.specs.Promise.{Promise}
 
 -- nothing waits; items are numbers

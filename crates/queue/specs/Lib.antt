@@ -6,5 +6,5 @@ pub mod Calls
 pub mod Promise
 pub mod Examples
 pub mod Plays
-pub mod Turns
 pub mod InPlay
+pub mod Turns

@@ -1,8 +1,8 @@
 //! A list of moves on a lane, with the promise in its contract.
-ghost use Rattle.std.specs.Prelude.{◌≡◌, ◌<◌, ◌≤◌, length, take as first, MatchResult, slice_set};
+ghost use Rattle.std.specs.Prelude.{◌≡◌, ◌<◌, ◌≤◌, [], ◌∷◌, length, take as first, MatchResult, slice_set};
 ghost use Rattle.lane.specs.Moments.{moment};
 ghost use Rattle.lane.specs.Openings.{Unopened};
-ghost use Rattle.queue.specs.InPlay.{Roomy, Noted};
+ghost use Rattle.queue.specs.InPlay.{Roomy, Going, Noted};
 ghost use Rattle.queue.specs.Plays.{PlayedAsPromised};
 ghost use Rattle.queue.specs.Turns.{JustOpenedOver, Turn, TurnRefused};
 
@@ -82,6 +82,28 @@ impl<K: Kind, M: Memory> Play<K, M> {
     }
 }
 
+// A lane after a move that is made, and what the move answers.
+struct Moved<K: Kind, M: Memory> {
+    play: Play<K, M>,
+    said: Said<K>,
+}
+
+// In a memory with all the words that the lane needs, every step is made.
+fn make_move<K: Kind, M: Memory>(play: Play<K, M>, m: Move<K>) -> Moved<K, M>
+    requires { Roomy M.Memory K.Kind (moment play.lane) }
+    ensures made { Going M.Memory K.Kind (moment play.lane) (m ∷ []) (result.said ∷ []) (moment result.play.lane) }
+    ensures room { Roomy M.Memory K.Kind (moment result.play.lane) }
+{
+    let Told { play, said } = play.make(m);
+    match said {
+        Ok(said) => Moved { play, said },
+        Err(_) => Moved {
+            play,
+            said: Said::Nothing,
+        },
+    }
+}
+
 fn note<K: Kind>(place: &mut [Said<K>], i: usize, said: Said<K>)
     requires { i < length place.old }
     ensures { place.new ≡ slice_set place.old i said }
@@ -101,12 +123,9 @@ fn make_all<K: Kind, M: Memory>(
     let mut play = play;
     let mut i = 0;
     while i < moves.len() && i < place.len() {
-        let Told { play: next, said } = play.make(moves[i]);
-        play = next;
-        let Ok(said) = said else {
-            return play;
-        };
+        let Moved { play: next, said } = make_move(play, moves[i]);
         note(place, i, said);
+        play = next;
         i += 1;
     }
     play

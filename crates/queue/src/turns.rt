@@ -6,7 +6,8 @@ ghost use Rattle.lane.specs.Stages.{putting, taking};
 ghost use Rattle.lane.specs.declared.sides.Put.TheVariants.{Idle};
 ghost use Rattle.lane.specs.declared.sides.Take.TheVariants.{Idle as Unbegun};
 ghost use Rattle.queue.specs.Busy.{feeder_busy, drawer_busy};
-ghost use Rattle.queue.specs.Turns.{Begun, TakeBegins, PutTurn, TakeTurn, Turn, TurnRefused, StepRefused};
+ghost use Rattle.queue.specs.InPlay.{Begun, TakeBegins, PutTurn, TakeTurn};
+ghost use Rattle.queue.specs.Turns.{Turn, TurnRefused, StepRefused};
 ghost use Rattle.queue.specs.declared.moves.Move.TheVariants.{Feed, Draw};
 
 use crate::moves::Said;

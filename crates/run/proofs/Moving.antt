@@ -17,8 +17,10 @@ use Rattle.queue.specs.declared.moves.Move.TheVariants as move
 use Rattle.queue.specs.declared.moves.Said.{Said}
 use Rattle.queue.specs.History.{Event, Leads}
 use Rattle.queue.specs.History as history
-use Rattle.queue.specs.Turns.{Begun, TakeBegins, Turn, TurnRefused}
+use Rattle.queue.specs.InPlay.{Begun, TakeBegins}
+use Rattle.queue.specs.Turns.{Turn, TurnRefused}
 use Rattle.queue.specs.Turns as turn
+use Rattle.queue.specs.InPlay as inplay
 use Rattle.queue.proofs.Histories.{put_stays, take_stays, putting_now, taking_now}
 use Rattle.run.specs.declared.faults.Stop.{Stop}
 use Rattle.run.specs.declared.faults.Stop.TheVariants.{Damaged, LogFull}
@@ -55,12 +57,12 @@ module _ {K X : Type 0} (G : memory.Ghosts X) (κ : kind.Ghosts K) where
   take_events m a n = begun_take (taking m.drawer.stage) ++ (history.steps_take (G.meaning m.memory) (G.meaning n.memory) a ∷ [])
 
   put_leads : {i : K} {m n o : Moment K X} {a : Option (Ended (PutAnswer K))} → Begun i m n → PutStep G κ n o a → Leads G κ m (put_events i m a o) o
-  put_leads {i} {m} {n} {o} {a} (turn.Begun.goes_on b) s = subst (λ (p : Bool). Leads G κ m (begun_put p i ++ (history.steps_put (G.meaning m.memory) (G.meaning o.memory) a ∷ [])) o) (sym (putting_now m.feeder.stage b)) (history.first (history.put_steps s) history.at_rest)
-  put_leads {i} {m} {n} {o} {a} (turn.Begun.begins e) s = subst (λ (p : Bool). Leads G κ m (begun_put p i ++ (history.steps_put (G.meaning m.memory) (G.meaning o.memory) a ∷ [])) o) (sym (ap putting e)) (history.first (history.put_begins e refl) (history.first (history.put_steps s) history.at_rest))
+  put_leads {i} {m} {n} {o} {a} (inplay.Begun.goes_on b) s = subst (λ (p : Bool). Leads G κ m (begun_put p i ++ (history.steps_put (G.meaning m.memory) (G.meaning o.memory) a ∷ [])) o) (sym (putting_now m.feeder.stage b)) (history.first (history.put_steps s) history.at_rest)
+  put_leads {i} {m} {n} {o} {a} (inplay.Begun.begins e) s = subst (λ (p : Bool). Leads G κ m (begun_put p i ++ (history.steps_put (G.meaning m.memory) (G.meaning o.memory) a ∷ [])) o) (sym (ap putting e)) (history.first (history.put_begins e refl) (history.first (history.put_steps s) history.at_rest))
 
   take_leads : {m n o : Moment K X} {a : Option (Ended (TakeAnswer K))} → TakeBegins m n → TakeStep G κ n o a → Leads G κ m (take_events m a o) o
-  take_leads {m} {n} {o} {a} (turn.TakeBegins.goes_on b) s = subst (λ (p : Bool). Leads G κ m (begun_take p ++ (history.steps_take (G.meaning m.memory) (G.meaning o.memory) a ∷ [])) o) (sym (taking_now m.drawer.stage b)) (history.first (history.take_steps s) history.at_rest)
-  take_leads {m} {n} {o} {a} (turn.TakeBegins.begins e) s = subst (λ (p : Bool). Leads G κ m (begun_take p ++ (history.steps_take (G.meaning m.memory) (G.meaning o.memory) a ∷ [])) o) (sym (ap taking e)) (history.first (history.take_begins e refl) (history.first (history.take_steps s) history.at_rest))
+  take_leads {m} {n} {o} {a} (inplay.TakeBegins.goes_on b) s = subst (λ (p : Bool). Leads G κ m (begun_take p ++ (history.steps_take (G.meaning m.memory) (G.meaning o.memory) a ∷ [])) o) (sym (taking_now m.drawer.stage b)) (history.first (history.take_steps s) history.at_rest)
+  take_leads {m} {n} {o} {a} (inplay.TakeBegins.begins e) s = subst (λ (p : Bool). Leads G κ m (begun_take p ++ (history.steps_take (G.meaning m.memory) (G.meaning o.memory) a ∷ [])) o) (sym (ap taking e)) (history.first (history.take_begins e refl) (history.first (history.take_steps s) history.at_rest))
 
   module _ (words : List ℕ) (n : ℕ) (m : Moment K X) where
     -- an item is left to offer

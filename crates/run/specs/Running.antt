@@ -8,8 +8,7 @@ use Rattle.lane.specs.declared.answers.TakeAnswer.{TakeAnswer}
 use Rattle.lane.specs.Moments.{Moment, PutStep, TakeStep}
 use Rattle.lane.specs.Stages.{putting, taking}
 use Rattle.queue.specs.History.{Event, Leads}
-use Rattle.queue.specs.InPlay.{Roomy}
-use Rattle.queue.specs.Turns.{Begun, TakeBegins}
+use Rattle.queue.specs.InPlay.{Begun, TakeBegins, Roomy}
 use Rattle.run.specs.declared.faults.Stop.{Stop}
 use Rattle.run.specs.declared.faults.Stop.TheVariants.{Damaged, LogFull}
 use Rattle.run.specs.declared.orders.Order.{Order}

@@ -1,6 +1,6 @@
 use Rattle.std.proofs.Common.{◌≡◌, ℕ, refl, inl, inr, arith}
 use Rattle.queue.specs.Waiting.{waiting_below}
-use Rattle.queue.specs.Examples.{ReadAsCalls, Excluded, swapped, empty_take, lacking_put, endless_put, miscounted_take}
+use Rattle.queue.specs.Examples.{swapped, empty_take, lacking_put, endless_put, miscounted_take}
 use Rattle.queue.specs.Promise.{Promise}
 use Rattle.queue.proofs.laws.promise_examples.Goals as goal
 

@@ -14,7 +14,10 @@ invariant_of-result-2 g c =
     let s = take_stays c.in-Ok.ensures.1 in
     let p = take_aside g.M.Memory g.K.Kind c.draw_step-end.result.said _ _ c.draw_step-end.ensures.step in
     let f = c.args.play.feeder_fits in
-    ((f.0 ∙ sym s.number ∙ sym p.0, f.1 ∙ sym (ap (λ e. putting e.stage) (p.1 ∙ s.feeder))), (c.draw_step-end.ensures.fits, tt))
+    record {
+      feeder_fits = (f.0 ∙ sym s.number ∙ sym p.0, f.1 ∙ sym (ap (λ e. putting e.stage) (p.1 ∙ s.feeder)));
+      drawer_fits = c.draw_step-end.ensures.fits;
+    }
 
 pub returns : goal.returns
 returns g c = drawn_turn g.M.Memory g.K.Kind c.draw_step-end.result.said _ c.in-Ok.ensures.1 c.draw_step-end.ensures.step

@@ -14,7 +14,10 @@ invariant_of-result-2 g c =
     let s = put_stays c.in-Ok.ensures.1 in
     let p = put_aside g.M.Memory g.K.Kind c.feed_step-end.result.said _ _ c.feed_step-end.ensures.step in
     let d = c.args.play.drawer_fits in
-    (c.feed_step-end.ensures.fits, ((d.0 ∙ sym s.number ∙ sym p.0, d.1 ∙ sym (ap (λ e. taking e.stage) (p.1 ∙ s.drawer))), tt))
+    record {
+      feeder_fits = c.feed_step-end.ensures.fits;
+      drawer_fits = (d.0 ∙ sym s.number ∙ sym p.0, d.1 ∙ sym (ap (λ e. taking e.stage) (p.1 ∙ s.drawer)));
+    }
 
 pub returns : goal.returns
 returns g c = fed_turn g.M.Memory g.K.Kind c.feed_step-end.result.said _ c.in-Ok.ensures.1 c.feed_step-end.ensures.step
