@@ -1,12 +1,12 @@
 -- The hand-over on the loose memory, move by move.
-use Rattle.std.proofs.Common.{◌≡◌, ℕ, ◌+◌, ◌<◌, true, false, ◌⊎◌, List, [], ◌∷◌, ◌++◌, length, get_or, take, drop, set, Some, None, Option, sym, refl, ap, ◌∙◌, subst, inl, inr, ⊎_elim, arith, get_or-set_same}
+use Rattle.std.proofs.Common.{◌≡◌, ℕ, ◌<◌, List, [], ◌∷◌, ◌++◌, length, get_or, take, drop, set, None, Option, sym, ap, ◌∙◌, subst, ⊎_elim, arith, get_or-set_same}
 use Rattle.std.proofs.lemmas.List.{drop_all}
 use Rattle.std.proofs.lemmas.Int.{ints}
 use Rattle.memory.specs.declared.Side.{Side}
 use Rattle.memory.specs.declared.Side.TheVariants.{Feeder, Drawer}
 use Rattle.memory.specs.declared.loose.Loose.{Loose}
 use Rattle.memory.specs.Meaning.{Entry, store, bar, Meaning, line, with_line, with_word, tidy, stores, look, joined, Look, Store, Bar, Land}
-use Rattle.memory.specs.Line.{ready, TakenOut}
+use Rattle.memory.specs.Line.{ready}
 use Rattle.memory.specs.Loose as loosely
 use Rattle.memory.specs.Loose.{loose_meaning, Room, Landed, Picked}
 use Rattle.words.specs.declared.edits.Edit.{Edit}
@@ -19,7 +19,6 @@ use Rattle.lane.specs.declared.answers.TakeAnswer.{TakeAnswer}
 use Rattle.lane.specs.declared.answers.TakeAnswer.TheVariants.{Empty}
 use Rattle.lane.specs.declared.sides.Drawer as drawer
 use Rattle.lane.specs.declared.sides.Feeder as feeder
-use Rattle.lane.specs.declared.sides.Places.{Places}
 use Rattle.lane.specs.declared.sides.Put.{Put as PutStage}
 use Rattle.lane.specs.declared.sides.Put.TheVariants as put
 use Rattle.lane.specs.declared.sides.Take.{Take as TakeStage}
@@ -27,10 +26,10 @@ use Rattle.lane.specs.declared.sides.Take.TheVariants as take
 use Rattle.lane.specs.Calls.{Makes}
 use Rattle.lane.specs.Layout.{own_on}
 use Rattle.lane.specs.Moments.{Moment, PutStep, TakeStep, fed, drawn}
-use Rattle.lane.specs.Openings.{first_places, opened}
+use Rattle.lane.specs.Openings.{first_places}
 use Rattle.lane.specs.Stages.{putting, taking}
 use Rattle.lane.proofs.Busy.{no_both}
-use Rattle.queue.specs.declared.moves.Move.TheVariants.{Feed, Draw}
+use Rattle.queue.specs.declared.moves.Move.TheVariants.{Draw}
 use Rattle.queue.specs.declared.moves.Said.{Said}
 use Rattle.queue.specs.declared.moves.Said.TheVariants.{Put, Take}
 use Rattle.queue.specs.History as history
@@ -39,7 +38,6 @@ use Rattle.queue.specs.Plays as plays
 use Rattle.queue.specs.Plays.{Plays, PlayedAsPromised, put_said, take_said}
 use Rattle.queue.specs.Waiting.{NothingWaits, landed_word, size}
 use Rattle.queue.proofs.Opens.{opens_lane}
-use Rattle.queue.proofs.Runs.{OpenedLane}
 use Rattle.examples.specs.LooseHandOver.{loose, edits, hand_over, told, LooseHandOver}
 use Rattle.examples.proofs.TableRows.{put_gives, take_gives}
 

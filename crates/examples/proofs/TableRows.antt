@@ -1,5 +1,5 @@
 -- What the rows of the tables that a short hand-over comes to give, read by where a call stands.
-use Rattle.std.proofs.Common.{◌≡◌, ℕ, ◌⊎◌, Some, None, Option, sym, refl, subst, inl, inr, arith}
+use Rattle.std.proofs.Common.{◌≡◌, ℕ, ◌⊎◌, None, Option, sym, refl, subst, inl, inr, arith}
 use Rattle.memory.specs.declared.Side.TheVariants.{Feeder, Drawer}
 use Rattle.memory.specs.declared.loose.Loose.{Loose}
 use Rattle.memory.specs.Meaning.{Look, Store, Bar}

@@ -9,7 +9,6 @@ use Rattle.words.specs.declared.faults.ItemFault.TheVariants as fault
 use Rattle.words.specs.declared.parts.Part.TheVariants.{Deck, Value}
 use Rattle.words.specs.declared.readings.Reading.{Reading}
 use Rattle.words.specs.declared.rings.RingNumber.{RingNumber}
-use Rattle.words.specs.declared.settings.Setting.{Setting}
 use Rattle.words.specs.declared.settings.Setting.TheVariants.{TopHeat}
 use Rattle.words.specs.Ranges.{FirstOut, edit_numbers}
 use Rattle.words.specs.Refusals.{refusal}

@@ -7,7 +7,6 @@ use Rattle.memory.specs.contracts.loose.LooseMemory.TheImpl as LooseMemory
 use Rattle.words.specs.declared.edits.Edit.{Edit}
 use Rattle.words.specs.declared.kinds.Kind as kind
 use Rattle.words.specs.contracts.items.EditKind.TheImpl as EditKind
-use Rattle.lane.specs.declared.answers.Ended.{Ended}
 use Rattle.lane.specs.declared.answers.PutAnswer.TheVariants.{Accepted}
 use Rattle.lane.specs.declared.answers.TakeAnswer.TheVariants.{Empty, Taken}
 use Rattle.queue.specs.declared.moves.Move.{Move}

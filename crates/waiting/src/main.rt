@@ -1,7 +1,6 @@
 //! Makes the memory calls of a script and shows, after each, what waits and what has landed.
 #![tactic(auto)]
 
-
 mod play;
 mod request;
 mod setup;

@@ -64,7 +64,7 @@ fn play<M: Show>(
         if is_silent(line) {
             println!(rt; "{line}")?;
         } else if !play_line(rt, memory, line)? {
-            return Err(no_call(rt, i, line)?.into());
+            return Err(anyhow::Error::msg(no_call(rt, i, line)?));
         }
     }
     Ok(script.len())

@@ -12,8 +12,8 @@ no_ring w h (item.Edit e) k = grind arith
 no_ring w h (item.Reading r) k = grind arith
 no_ring w h (item.Ring n) k = h n
 
-pub returns-in_err-read-3 : goal.returns-in_err-read-3
-returns-in_err-read-3 c =
-    let p = err_from_is_err_and c.from_residual-in_err-read-3.result c.from_residual-in_err-read-3.ensures.1 in
-    let e = c.in_err-read-3.ensures in
+pub returns-in_err-read-in-Ring : goal.returns-in_err-read-in-Ring
+returns-in_err-read-in-Ring c =
+    let p = err_from_is_err_and c.from_residual-in_err-read-in-Ring.result c.from_residual-in_err-read-in-Ring.ensures.1 in
+    let e = c.in_err-read-in-Ring.ensures in
     rw (p.1, p.2, c.in-Ring.is) (e.0, no_ring c.args.word e.1)
