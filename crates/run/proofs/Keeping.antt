@@ -1,9 +1,9 @@
 -- A run keeps the promise.
-use Rattle.std.proofs.Common.{◌≡◌, ℕ, false, List, ◌++◌, sym, refl, ap, ◌∙◌, subst}
+use Rattle.std.proofs.Common.{◌≡◌, ℕ, List, ◌++◌, sym, ap, subst}
 use Rattle.memory.specs.declared.Memory as memory
 use Rattle.words.specs.declared.kinds.Kind as kind
 use Rattle.lane.specs.Moments.{Moment}
-use Rattle.lane.specs.Openings.{Openable, opened}
+use Rattle.lane.specs.Openings.{Openable}
 use Rattle.lane.specs.Stages.{putting, taking}
 use Rattle.lane.proofs.Sizes.{opens_room}
 use Rattle.queue.specs.InPlay.{Roomy}

@@ -23,7 +23,7 @@ use Rattle.queue.specs.Turns as turn
 use Rattle.queue.specs.InPlay as inplay
 use Rattle.queue.proofs.Histories.{put_stays, take_stays, putting_now, taking_now}
 use Rattle.run.specs.declared.faults.Stop.{Stop}
-use Rattle.run.specs.declared.faults.Stop.TheVariants.{Damaged, LogFull}
+use Rattle.run.specs.declared.faults.Stop.TheVariants.{LogFull}
 use Rattle.run.specs.declared.orders.Order.{Order}
 use Rattle.run.specs.declared.orders.Order.TheVariants.{Feed, Draw, Drain, Land}
 use Rattle.run.specs.declared.records.Record.{Record}

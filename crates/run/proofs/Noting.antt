@@ -1,5 +1,5 @@
 -- A call noted in the log.
-use Rattle.std.proofs.Common.{◌≡◌, ℕ, ◌+◌, ◌<◌, List, [], ◌∷◌, ◌++◌, length, take, drop, set, sym, refl, ap, ◌∙◌, subst, add-zero, add-one}
+use Rattle.std.proofs.Common.{ℕ, ◌+◌, ◌<◌, List, [], ◌∷◌, length, set, sym, refl, add-zero, add-one}
 use Rattle.std.proofs.lemmas.List.{take-append-drop, set_split}
 use Rattle.run.specs.declared.records.Record.{Record}
 use Rattle.run.specs.Logs.{Call, at_move}

@@ -1,20 +1,17 @@
 -- A run, move by move, until it stops.
-use Rattle.std.proofs.Common.{◌≡◌, ℕ, ◌+◌, ◌-◌, ◌<◌, ◌≤◌, Bool, true, false, List, [], ◌∷◌, ◌++◌, map, length, get_or, take, drop, Some, None, sym, refl, ap, ◌∙◌, subst, append_assoc, arith}
-use Rattle.std.proofs.lemmas.List.{take_at, drop_at, drop-drop, append-nil, length-append, length-take, length-drop, take_all}
+use Rattle.std.proofs.Common.{◌≡◌, ℕ, ◌+◌, ◌<◌, ◌≤◌, Bool, false, List, [], ◌∷◌, ◌++◌, map, length, get_or, take, drop, Some, None, sym, refl, ap, ◌∙◌, subst, append_assoc, arith}
+use Rattle.std.proofs.lemmas.List.{take_at, drop_at, drop-drop, append-nil, length-append, length-take, length-drop}
 use Rattle.memory.specs.declared.Memory as memory
 use Rattle.words.specs.declared.kinds.Kind as kind
 use Rattle.lane.specs.Moments.{Moment}
-use Rattle.lane.specs.Stages.{putting, taking}
 use Rattle.queue.specs.History.{Event, Leads}
 use Rattle.queue.specs.History as history
-use Rattle.queue.specs.InPlay.{Roomy}
 use Rattle.queue.proofs.Histories.{leads_join, leads_room}
 use Rattle.run.specs.declared.faults.Stop.{Stop}
 use Rattle.run.specs.declared.faults.Stop.TheVariants.{UnknownMove}
 use Rattle.run.specs.declared.orders.Order.{Order}
 use Rattle.run.specs.declared.records.Record.{Record}
 use Rattle.run.specs.declared.tallies.Counts.{Counts}
-use Rattle.run.specs.declared.tallies.Tally.{Tally}
 use Rattle.run.specs.Logs.{at_move}
 use Rattle.run.specs.Orders.{Asks, Unknown}
 use Rattle.run.specs.Promised.{MadeMoves}

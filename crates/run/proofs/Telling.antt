@@ -1,5 +1,5 @@
 -- The log tells of the calls of the history.
-use Rattle.std.proofs.Common.{◌≡◌, ℕ, ◌+◌, Bool, true, false, List, [], ◌∷◌, ◌++◌, map, length, take, drop, Some, None, Option, sym, refl, ap, ◌∙◌, subst, append_assoc, arith}
+use Rattle.std.proofs.Common.{◌≡◌, ℕ, Bool, true, false, List, [], ◌∷◌, ◌++◌, map, length, take, drop, Some, None, Option, sym, refl, ap, ◌∙◌, subst, append_assoc}
 use Rattle.std.proofs.lemmas.List.{append-nil, map-append, take_at, take-map, length-map}
 use Rattle.memory.specs.Meaning.{Meaning}
 use Rattle.words.specs.declared.kinds.Kind as kind
@@ -11,7 +11,7 @@ use Rattle.lane.specs.declared.answers.TakeAnswer.TheVariants as take
 use Rattle.lane.proofs.Busy.{no_both}
 use Rattle.queue.specs.History.{Event}
 use Rattle.queue.specs.History as history
-use Rattle.queue.specs.Calls.{Sight, PutCall, TakeCall, Account, if_accepted, if_taken, accepted_by, taken_by, accepted, taken, nothing_yet, untaken_of, sight, put_noted, take_noted, noted, account, account_from}
+use Rattle.queue.specs.Calls.{PutCall, TakeCall, Account, if_accepted, if_taken, accepted_by, taken_by, accepted, taken, nothing_yet, untaken_of, sight, put_noted, take_noted, noted, account, account_from}
 use Rattle.run.specs.declared.faults.Stop.{Stop}
 use Rattle.run.specs.declared.orders.Order.{Order}
 use Rattle.run.specs.declared.records.Answer.TheVariants.{Accepted}

@@ -1,5 +1,5 @@
 -- How a log tells of the calls of a history.
-use Rattle.std.specs.Prelude.{ℕ, List, [], ◌∷◌, ◌++◌, map, Some, None, Option}
+use Rattle.std.specs.Prelude.{ℕ, List, [], ◌∷◌, ◌++◌, Some, None, Option}
 use Rattle.words.specs.declared.kinds.Kind as kind
 use Rattle.lane.specs.declared.answers.Ended.{Ended}
 use Rattle.lane.specs.declared.answers.PutAnswer.{PutAnswer}

@@ -1,5 +1,5 @@
 -- A run between two moves, and what a move makes of it.
-use Rattle.std.specs.Prelude.{◌≡◌, ℕ, ◌+◌, ◌<◌, ◌≤◌, true, false, List, ◌++◌, map, length, take as first, drop, Some, None, Ok, Err, Option, Result, ◌≢◌}
+use Rattle.std.specs.Prelude.{◌≡◌, ℕ, ◌+◌, ◌<◌, ◌≤◌, true, false, List, ◌++◌, map, length, take as first, drop, None, Ok, Err, Option, Result, ◌≢◌}
 use Rattle.memory.specs.declared.Memory as memory
 use Rattle.words.specs.declared.kinds.Kind as kind
 use Rattle.lane.specs.declared.answers.Ended.{Ended}

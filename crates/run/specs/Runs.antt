@@ -14,7 +14,6 @@ use Rattle.run.specs.declared.orders.Order.{Order}
 use Rattle.run.specs.declared.orders.Order.TheVariants.{Feed, Draw, Drain, Land}
 use Rattle.run.specs.declared.faults.Stop.{Stop}
 use Rattle.run.specs.declared.faults.Stop.TheVariants.{Damaged, UnknownMove, LogFull}
-use Rattle.run.specs.declared.records.Answer.{Answer}
 use Rattle.run.specs.declared.records.Record.{Record}
 use Rattle.run.specs.Logs.{put_told, take_told, ended_call, at_move}
 use Rattle.run.specs.Orders.{Asks, Unknown}
