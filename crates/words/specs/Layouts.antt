@@ -1,5 +1,5 @@
 -- The bytes of an item's word, and that they tell the item.
-use Rattle.std.specs.Prelude.{◌≡◌, ℕ, ◌/◌, ◌%◌, ◌^◌, ◌<◌, false, List, [], ◌∷◌, ℤ, pos, Some, None, Option, FitsSigned, ◌==◌, nat_eq, refl}
+use Rattle.std.specs.Prelude.{◌≡◌, ◌≢◌, ℕ, ◌/◌, ◌%◌, ◌^◌, ◌<◌, false, List, [], ◌∷◌, ℤ, pos, Some, None, Option, FitsSigned, ◌==◌, nat_eq, refl}
 use Rattle.std.proofs.Common.{⊎_elim, sym, ap, ◌∙◌, arith, of_z, to_z, ne_eqb}
 use Rattle.std.specs.Int.{w16}
 use Rattle.std.proofs.lemmas.Int.{ints, to_z-of_z}
@@ -17,6 +17,12 @@ use Rattle.words.specs.SameItem.{same_edit, same_reading, same_ring}
 
 pub same_setting : (s t : Setting) → code s ≡ code t → s ≡ t
 same_setting s t e = grind arith
+
+code_fits : (s : Setting) → code s < 256
+code_fits s = grind arith
+
+code_above : (s : Setting) → 0 < code s
+code_above s = grind arith
 
 pub value_fits : (s : Setting) (n : ℕ) → InRange (Value s) (pos n) → n < 2 ^ 32
 value_fits s n h = grind (arith, ints)
@@ -39,6 +45,16 @@ edit_bytes x w h =
       zero = omega (arith, ints);
       value = omega (arith, ints);
     }
+
+-- each word fits 64 bits and is not bare, and the words of two items differ
+pub edit_fits : (x : Edit) → edit_word x < 2 ^ 64
+edit_fits x =
+    let v : x.value < 2 ^ 32 = value_fits x.setting x.value x.in_range.2 in
+    let c : code x.setting < 256 = code_fits x.setting in
+    omega (arith, ints)
+
+pub edit_marked : (x : Edit) → edit_word x ≢ 0
+edit_marked x e = let c : 0 < code x.setting = code_above x.setting in omega (arith, ints)
 
 pub same_edit_word : (x y : Edit) → edit_word x ≡ edit_word y → x ≡ y
 same_edit_word x y h =
@@ -79,6 +95,12 @@ reading_bytes x w h =
       temperature = omega (arith, ints);
     }
 
+pub reading_fits : (x : Reading) → reading_word x < 2 ^ 64
+reading_fits x = omega (arith, ints, bits_fit x.tenths x.measured)
+
+pub reading_marked : (x : Reading) → reading_word x ≢ 0
+reading_marked x e = omega arith
+
 pub same_reading_word : (x y : Reading) → reading_word x ≡ reading_word y → x ≡ y
 same_reading_word x y h =
     let p = reading_bytes x (reading_word y) h in
@@ -86,6 +108,12 @@ same_reading_word x y h =
     let t : temperature_bits x.tenths ≡ temperature_bits y.tenths = omega arith in
     same_reading x y (omega arith) (omega arith) (omega arith)
     (sym (bits_read x.tenths x.measured) ∙ (ap bits_temperature t ∙ bits_read y.tenths y.measured))
+
+pub ring_fits : (x : RingNumber) → ring_word x < 2 ^ 64
+ring_fits x = omega (arith, ints)
+
+pub ring_marked : (x : RingNumber) → ring_word x ≢ 0
+ring_marked x e = omega arith
 
 pub same_ring_word : (x y : RingNumber) → ring_word x ≡ ring_word y → x ≡ y
 same_ring_word x y h = same_ring x y (omega arith)

@@ -1,9 +1,7 @@
 //! The three kinds of item, each by the layout of its word.
 ghost use Rattle.words.specs.Words.{edit_word, reading_word, ring_word, temperature_bits, bits_temperature};
 ghost use Rattle.std.specs.Prelude.{◌≡◌};
-ghost use Rattle.words.specs.Layouts.{same_edit_word, bits_fit, same_reading_word, same_ring_word};
-ghost use Rattle.std.proofs.Common.{rules, arith};
-ghost use Rattle.std.proofs.lemmas.Int.{ints};
+ghost use Rattle.words.specs.Layouts.{edit_fits, edit_marked, same_edit_word, reading_fits, reading_marked, same_reading_word, ring_fits, ring_marked, same_ring_word};
 
 use crate::edits::Edit;
 use crate::faults::ItemFault;
@@ -21,11 +19,11 @@ const OPEN: u16 = 0x8000;
 impl Kind for Edit {
     ghost word = { edit_word };
 
-    ghost fits = { first_of (Prim.search rules, Prim.grind (arith, Self.row.coded.inj)) };
+    ghost fits = { edit_fits };
 
-    ghost marked = { first_of (Prim.search rules, Prim.grind (arith, Self.row.coded.inj)) };
+    ghost marked = { edit_marked };
 
-    ghost single = { λ x y h. same_edit_word x y h };
+    ghost single = { same_edit_word };
 
     fn to_word(self) -> u64 {
         let [v3, v2, v1, v0] = self.value.to_be_bytes();
@@ -79,11 +77,11 @@ fn tenths_of(bits: u16) -> Option<i64>
 impl Kind for Reading {
     ghost word = { reading_word };
 
-    ghost fits = { λ x. omega (arith, ints, bits_fit x.tenths x.measured) };
+    ghost fits = { reading_fits };
 
-    ghost marked = { first_of (Prim.search rules, Prim.grind (arith, Self.row.coded.inj)) };
+    ghost marked = { reading_marked };
 
-    ghost single = { λ x y h. same_reading_word x y h };
+    ghost single = { same_reading_word };
 
     fn to_word(self) -> u64 {
         let [t1, t0] = self.tick.to_be_bytes();
@@ -108,11 +106,11 @@ impl Kind for Reading {
 impl Kind for RingNumber {
     ghost word = { ring_word };
 
-    ghost fits = { first_of (Prim.search rules, Prim.grind (arith, Self.row.coded.inj)) };
+    ghost fits = { ring_fits };
 
-    ghost marked = { first_of (Prim.search rules, Prim.grind (arith, Self.row.coded.inj)) };
+    ghost marked = { ring_marked };
 
-    ghost single = { λ x y h. same_ring_word x y h };
+    ghost single = { same_ring_word };
 
     fn to_word(self) -> u64 {
         u64::from(self.number) + 1
