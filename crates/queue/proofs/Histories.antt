@@ -134,13 +134,17 @@ module _ {K X : Type 0} (G : memory.Ghosts X) (κ : kind.Ghosts K) where
   turn_going (turn.Turn.drains h) = drained_going h
   turn_going (turn.Turn.lands {s} {pick} h) = landed_going s pick h
 
-  not_cramped : (m : Moment K X) {n o : Moment K X} {why : Refusal} → n.rings ≡ m.rings → n.cells ≡ m.cells → n.memory ≡ m.memory → Roomy G κ m → StepRefused G n o why → ⊥
+  pub not_cramped : (m : Moment K X) {n o : Moment K X} {why : Refusal} → n.rings ≡ m.rings → n.cells ≡ m.cells → n.memory ≡ m.memory → Roomy G κ m → StepRefused G n o why → ⊥
   not_cramped m a b c r (turn.StepRefused.outside h) = let s = rw (a, b, c) at h.memory_small.small in omega arith
 
   -- where there is room, every step is made
   pub made_in_room : {mv : Move K} {m n : Moment K X} {why : Refusal} → Roomy G κ m → TurnRefused G mv m why n → ⊥
   made_in_room {m = m} r (turn.TurnRefused.feeds b h) = let s = put_stays b in not_cramped m s.rings s.cells s.memory r h
   made_in_room {m = m} r (turn.TurnRefused.draws b h) = let s = take_stays b in not_cramped m s.rings s.cells s.memory r h
+
+  pub turn_made : (mv : Move K) (r : Result (Said K) Refusal) (m o : Moment K X) → MatchResult r (λ s. Turn G κ mv m s o) (λ why. TurnRefused G mv m why o) → Roomy G κ m → MatchResult r (λ s. Going G κ m (mv ∷ []) (s ∷ []) o) (λ _. ⊥)
+  turn_made mv (Ok s) m o h r = turn_going h
+  turn_made mv (Err why) m o h r = made_in_room r h
 
   pub leads_join : {m n o : Moment K X} {h k : List (Event K)} → Leads G κ m h n → Leads G κ n k o → Leads G κ m (h ++ k) o
   leads_join history.at_rest q = q

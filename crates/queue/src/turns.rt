@@ -1,12 +1,12 @@
 //! A move of each side.
-ghost use Rattle.std.specs.Prelude.{◌≡◌, MatchResult, ◌≢◌};
+ghost use Rattle.std.specs.Prelude.{◌≡◌, ◌≢◌, [], ◌∷◌, MatchResult};
 ghost use Rattle.lane.specs.Ends.{feeder_lane, drawer_lane};
 ghost use Rattle.lane.specs.Moments.{moment};
 ghost use Rattle.lane.specs.Stages.{putting, taking};
 ghost use Rattle.lane.specs.declared.sides.Put.TheVariants.{Idle};
 ghost use Rattle.lane.specs.declared.sides.Take.TheVariants.{Idle as Unbegun};
 ghost use Rattle.queue.specs.Busy.{feeder_busy, drawer_busy};
-ghost use Rattle.queue.specs.InPlay.{Begun, TakeBegins, PutTurn, TakeTurn};
+ghost use Rattle.queue.specs.InPlay.{Begun, TakeBegins, PutTurn, TakeTurn, Roomy, Going};
 ghost use Rattle.queue.specs.Turns.{Turn, TurnRefused, StepRefused};
 ghost use Rattle.queue.specs.declared.moves.Move.TheVariants.{Feed, Draw};
 
@@ -73,6 +73,8 @@ fn feed_step<K: Kind, M: Memory>(lane: &mut Lane<K, M>, busy: FeederBusy) -> Fed
     ensures step { MatchResult result.said
         (λ s. PutTurn M.Memory K.Kind (moment lane.old) (moment lane.new) s)
         (λ why. StepRefused M.Memory (moment lane.old) (moment lane.new) why) }
+    ensures in_room { Roomy M.Memory K.Kind (moment lane.old)
+        → MatchResult result.said (λ s. PutTurn M.Memory K.Kind (moment lane.old) (moment lane.new) s) (λ _. ⊥) }
     ensures fits { (feeder_lane result.end ≡ lane.new.number) × (feeder_busy result.end ≡ putting lane.new.feeder.stage) }
 {
     match lane.put_step(busy) {
@@ -98,6 +100,8 @@ fn draw_step<K: Kind, M: Memory>(lane: &mut Lane<K, M>, busy: DrawerBusy) -> Dra
     ensures step { MatchResult result.said
         (λ s. TakeTurn M.Memory K.Kind (moment lane.old) (moment lane.new) s)
         (λ why. StepRefused M.Memory (moment lane.old) (moment lane.new) why) }
+    ensures in_room { Roomy M.Memory K.Kind (moment lane.old)
+        → MatchResult result.said (λ s. TakeTurn M.Memory K.Kind (moment lane.old) (moment lane.new) s) (λ _. ⊥) }
     ensures fits { (drawer_lane result.end ≡ lane.new.number) × (drawer_busy result.end ≡ taking lane.new.drawer.stage) }
 {
     match lane.take_step(busy) {
@@ -119,9 +123,11 @@ fn draw_step<K: Kind, M: Memory>(lane: &mut Lane<K, M>, busy: DrawerBusy) -> Dra
 }
 
 pub(crate) fn feed<K: Kind, M: Memory>(play: Play<K, M>, item: K) -> Told<K, M>
-    ensures { MatchResult result.said
+    ensures turn { MatchResult result.said
         (λ s. Turn M.Memory K.Kind (Feed item) (moment play.lane) s (moment result.play.lane))
         (λ why. TurnRefused M.Memory (Feed item) (moment play.lane) why (moment result.play.lane)) }
+    ensures in_room { Roomy M.Memory K.Kind (moment play.lane)
+        → MatchResult result.said (λ s. Going M.Memory K.Kind (moment play.lane) (Feed item ∷ []) (s ∷ []) (moment result.play.lane)) (λ _. ⊥) }
 {
     let Play {
         lane,
@@ -152,9 +158,11 @@ pub(crate) fn feed<K: Kind, M: Memory>(play: Play<K, M>, item: K) -> Told<K, M>
 }
 
 pub(crate) fn draw<K: Kind, M: Memory>(play: Play<K, M>) -> Told<K, M>
-    ensures { MatchResult result.said
+    ensures turn { MatchResult result.said
         (λ s. Turn M.Memory K.Kind Draw (moment play.lane) s (moment result.play.lane))
         (λ why. TurnRefused M.Memory Draw (moment play.lane) why (moment result.play.lane)) }
+    ensures in_room { Roomy M.Memory K.Kind (moment play.lane)
+        → MatchResult result.said (λ s. Going M.Memory K.Kind (moment play.lane) (Draw ∷ []) (s ∷ []) (moment result.play.lane)) (λ _. ⊥) }
 {
     let Play {
         lane,

@@ -1,6 +1,6 @@
 use Rattle.std.proofs.Common.{sym, ap, ◌∙◌}
 use Rattle.lane.specs.Stages.{putting}
-use Rattle.queue.proofs.Histories.{take_stays, take_aside, drawn_turn}
+use Rattle.queue.proofs.Histories.{take_stays, take_aside, drawn_turn, turn_made}
 use Rattle.queue.proofs.turns.draw.Goals as goal
 
 pub draw_step-end-requires : goal.draw_step-end-requires
@@ -20,4 +20,6 @@ invariant_of-result-2 g c =
     }
 
 pub returns : goal.returns
-returns g c = drawn_turn g.M.Memory g.K.Kind c.draw_step-end.result.said _ c.in-Ok.ensures.1 c.draw_step-end.ensures.step
+returns g c =
+    let t = drawn_turn g.M.Memory g.K.Kind c.draw_step-end.result.said _ c.in-Ok.ensures.1 c.draw_step-end.ensures.step in
+    record { turn = t; in_room = turn_made g.M.Memory g.K.Kind _ c.draw_step-end.result.said _ _ t }

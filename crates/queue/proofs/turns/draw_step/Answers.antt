@@ -1,8 +1,8 @@
 use Rattle.std.proofs.Common.{sym, refl, ap, ◌∙◌}
 use Rattle.lane.specs.Ends.{take_end, drawer_lane}
-use Rattle.lane.specs.Moments.{Moment}
+use Rattle.lane.specs.Moments.{Moment, moment}
 use Rattle.lane.proofs.Busy.{take_ends}
-use Rattle.queue.proofs.Histories.{refused_step, take_still}
+use Rattle.queue.proofs.Histories.{not_cramped, refused_step, take_still}
 use Rattle.queue.proofs.turns.draw_step.Goals as goal
 
 pub returns-in-Going : goal.returns-in-Going
@@ -12,6 +12,7 @@ returns-in-Going g c =
     let s = rw e at t.step in
     record {
       step = record { answer = _; step = s; says = refl };
+      in_room = λ _. record { answer = _; step = s; says = refl };
       fits = (sym (ap (λ z. drawer_lane (take_end z)) e) ∙ t.same_lane ∙ t.fits.0 ∙ sym (ap (λ (p : Moment _ _). p.number) t.step.after), sym (take_ends g.M.Memory g.K.Kind _ _ s.row));
     }
 
@@ -22,6 +23,7 @@ returns-in-Over g c =
     let s = rw e at t.step in
     record {
       step = record { answer = _; step = s; says = refl };
+      in_room = λ _. record { answer = _; step = s; says = refl };
       fits = (sym (ap (λ z. drawer_lane (take_end z)) e) ∙ t.same_lane ∙ t.fits.0 ∙ sym (ap (λ (p : Moment _ _). p.number) t.step.after), sym (take_ends g.M.Memory g.K.Kind _ _ s.row));
     }
 
@@ -30,4 +32,4 @@ returns-in-Err g c =
     let t = c.in-Err.ensures in
     let s = refused_step g.M.Memory _ _ _ c.requires t.refused in
     let k = take_still g.M.Memory c.requires.1 s in
-    record { step = s; fits = (ap (λ e. e.lane) t.end_back ∙ c.requires.0 ∙ k.0, k.1) }
+    record { step = s; in_room = λ r. not_cramped g.M.Memory g.K.Kind (moment c.args.lane.now) refl refl refl r s; fits = (ap (λ e. e.lane) t.end_back ∙ c.requires.0 ∙ k.0, k.1) }

@@ -1,6 +1,6 @@
 use Rattle.std.proofs.Common.{sym, ap, ◌∙◌}
 use Rattle.lane.specs.Stages.{taking}
-use Rattle.queue.proofs.Histories.{put_stays, put_aside, fed_turn}
+use Rattle.queue.proofs.Histories.{put_stays, put_aside, fed_turn, turn_made}
 use Rattle.queue.proofs.turns.feed.Goals as goal
 
 pub feed_step-end-requires : goal.feed_step-end-requires
@@ -20,4 +20,6 @@ invariant_of-result-2 g c =
     }
 
 pub returns : goal.returns
-returns g c = fed_turn g.M.Memory g.K.Kind c.feed_step-end.result.said _ c.in-Ok.ensures.1 c.feed_step-end.ensures.step
+returns g c =
+    let t = fed_turn g.M.Memory g.K.Kind c.feed_step-end.result.said _ c.in-Ok.ensures.1 c.feed_step-end.ensures.step in
+    record { turn = t; in_room = turn_made g.M.Memory g.K.Kind _ c.feed_step-end.result.said _ _ t }
