@@ -105,8 +105,7 @@ fn run_book(book: &[u8], log: &mut [Record]) -> Summary
 
 /// Runs the book and writes the listing of its run to the start of the place; answers the listing's length.
 /// A place too short is left unwritten, and 0 answered; 37,938 bytes always suffice.
-#[unsafe(no_mangle)]
-pub extern "C" fn bench_listing(book: &[u8], place: &mut [u8]) -> usize
+pub fn bench_listing(book: &[u8], place: &mut [u8]) -> usize
     ensures { Listed book.now place.old place.new result }
 {
     let mut log = [Record {
