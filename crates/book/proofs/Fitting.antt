@@ -39,9 +39,9 @@ module _ {K : Type 0} (κ : kind.Ghosts K) where
 
   early_run : {places : ℕ} {words bytes : List ℕ} {h : List (Event K)} {rs : List Record} {s : Standing} → Runs κ places words bytes h rs s → length bytes ≤ 65536 → Early rs
   early_run not_yet l = tt
-  early_run (one_more {bytes} {h} {e} {rs} {r} byte before asks room Makes) l =
+  early_run (one_more {bytes} {h} {e} {rs} {r} byte before asks room makes) l =
       let k : length (bytes ++ (byte ∷ [])) ≡ length bytes + 1 = length-append bytes (byte ∷ []) in
-      early_both rs r (early_run before (omega arith)) (early_move Makes (omega arith))
+      early_both rs r (early_run before (omega arith)) (early_move makes (omega arith))
 
 -- a stop names one of these moves
 abbrev pub StopsBelow : ℕ → Option Stop → Type 0

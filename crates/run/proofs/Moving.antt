@@ -87,7 +87,7 @@ module _ {K X : Type 0} (G : memory.Ghosts X) (κ : kind.Ghosts K) where
     module _ (c : Counts) (log : List Record) where
       -- a feeder step with nothing left to offer
       pub put_rests : length words ≤ c.accepted → ComesTo G κ n words Feed c m log (Ok c) m log
-      put_rests h = record { events = []; cs = []; Makes = subst (λ (ws : List ℕ). Makes κ n (standing ws (putting m.feeder.stage) (taking m.drawer.stage)) Feed [] [] (standing ws (putting m.feeder.stage) (taking m.drawer.stage))) (sym (drop_all c.accepted words h)) runs.Makes.rests; leads = history.at_rest; place = λ s. absurd (nothing_steps (subst (λ (ws : List ℕ). Steps (standing ws (putting m.feeder.stage) (taking m.drawer.stage)) Feed) (drop_all c.accepted words h) s)); noted = noted_none n c.calls log }
+      put_rests h = record { events = []; cs = []; makes = subst (λ (ws : List ℕ). Makes κ n (standing ws (putting m.feeder.stage) (taking m.drawer.stage)) Feed [] [] (standing ws (putting m.feeder.stage) (taking m.drawer.stage))) (sym (drop_all c.accepted words h)) runs.Makes.rests; leads = history.at_rest; place = λ s. absurd (nothing_steps (subst (λ (ws : List ℕ). Steps (standing ws (putting m.feeder.stage) (taking m.drawer.stage)) Feed) (drop_all c.accepted words h) s)); noted = noted_none n c.calls log }
 
       pub put_full : c.accepted < length words → length log ≤ c.calls → ComesTo G κ n words Feed c m log (Err (LogFull n)) m log
       put_full h f = (running.Halted.full (offering c.accepted h) f, refl)
@@ -96,11 +96,11 @@ module _ {K X : Type 0} (G : memory.Ghosts X) (κ : kind.Ghosts K) where
       take_full f = (running.Halted.full runs.Steps.draws f, refl)
 
       pub put_comes : (r : Result Counts Stop) {i : K} {a : Option (Ended (PutAnswer K))} (o : Moment K X) (log' : List Record) → c.accepted < length words → κ.word i ≡ get_or words c.accepted 0 → c.calls < length log → FedOn G κ i m a o → PutNoted κ n i a c log log' r → ComesTo G κ n words Feed c m log r o log'
-      put_comes (Ok d) {i} {a} o log' h e f g p = record { events = put_events i m a o; cs = ended_call (put_told κ i) a; Makes = subst (λ (k : ℕ). Makes κ n (stands_at words c.accepted m) Feed (put_events i m a o) (map (at_move n) (ended_call (put_told κ i) a)) (stands_at words k o)) (sym p.1) (put_makes c.accepted (offered i c.accepted h e) g p.0); leads = put_leads g.begun g.step; place = λ _. f; noted = p.2 }
+      put_comes (Ok d) {i} {a} o log' h e f g p = record { events = put_events i m a o; cs = ended_call (put_told κ i) a; makes = subst (λ (k : ℕ). Makes κ n (stands_at words c.accepted m) Feed (put_events i m a o) (map (at_move n) (ended_call (put_told κ i) a)) (stands_at words k o)) (sym p.1) (put_makes c.accepted (offered i c.accepted h e) g p.0); leads = put_leads g.begun g.step; place = λ _. f; noted = p.2 }
       put_comes (Err s) {i} {a} o log' h e f g p = (subst (λ (t : Stop). Halted G κ n words Feed c m log o t) (sym p.1) (running.Halted.broken f (put_damage c.accepted a o (offered i c.accepted h e) p.0) (put_leads g.begun g.step)), p.2)
 
       pub take_comes : (r : Result Counts Stop) {a : Option (Ended (TakeAnswer K))} (o : Moment K X) (log' : List Record) → c.calls < length log → DrawnOn G κ m a o → TakeNoted κ n a c log log' r → ComesTo G κ n words Draw c m log r o log'
-      take_comes (Ok d) {a} o log' f g p = record { events = take_events m a o; cs = ended_call (take_told κ) a; Makes = subst (λ (k : ℕ). Makes κ n (stands_at words c.accepted m) Draw (take_events m a o) (map (at_move n) (ended_call (take_told κ) a)) (stands_at words k o)) (sym p.1) (take_makes c.accepted g p.0); leads = take_leads g.begun g.step; place = λ _. f; noted = p.2 }
+      take_comes (Ok d) {a} o log' f g p = record { events = take_events m a o; cs = ended_call (take_told κ) a; makes = subst (λ (k : ℕ). Makes κ n (stands_at words c.accepted m) Draw (take_events m a o) (map (at_move n) (ended_call (take_told κ) a)) (stands_at words k o)) (sym p.1) (take_makes c.accepted g p.0); leads = take_leads g.begun g.step; place = λ _. f; noted = p.2 }
       take_comes (Err s) {a} o log' f g p = (subst (λ (t : Stop). Halted G κ n words Draw c m log o t) (sym p.1) (running.Halted.broken f (runs.MeetsDamage.takes (G.meaning m.memory) (G.meaning o.memory) a p.0) (take_leads g.begun g.step)), p.2)
 
       drained : (r : Result (Said K) Refusal) (o : Moment K X) → MatchResult r (λ s. Turn G κ move.Drain m s o) (λ why. TurnRefused G move.Drain m why o) → Draining G m o
@@ -112,10 +112,10 @@ module _ {K X : Type 0} (G : memory.Ghosts X) (κ : kind.Ghosts K) where
       landed (Err why) o h = absurd (elim h [ ])
 
       pub drain_comes : (r : Result (Said K) Refusal) (o : Moment K X) → MatchResult r (λ s. Turn G κ move.Drain m s o) (λ why. TurnRefused G move.Drain m why o) → ComesTo G κ n words Drain c m log (Ok c) o log
-      drain_comes r o t = let h = drained r o t in record { events = history.drains ∷ []; cs = []; Makes = subst (λ (s : Standing). Makes κ n (stands_at words c.accepted m) Drain (history.drains ∷ []) [] s) (sym (same_standing refl (ap (λ (p : Moment K X). putting p.feeder.stage) h.after) (ap (λ (p : Moment K X). taking p.drawer.stage) h.after))) runs.Makes.drains; leads = history.first (history.draining h) history.at_rest; place = λ s. absurd (no_drain_steps s); noted = noted_none n c.calls log }
+      drain_comes r o t = let h = drained r o t in record { events = history.drains ∷ []; cs = []; makes = subst (λ (s : Standing). Makes κ n (stands_at words c.accepted m) Drain (history.drains ∷ []) [] s) (sym (same_standing refl (ap (λ (p : Moment K X). putting p.feeder.stage) h.after) (ap (λ (p : Moment K X). taking p.drawer.stage) h.after))) runs.Makes.drains; leads = history.first (history.draining h) history.at_rest; place = λ s. absurd (no_drain_steps s); noted = noted_none n c.calls log }
 
       pub land_comes : (side : Side) (pick : ℕ) (r : Result (Said K) Refusal) (o : Moment K X) → MatchResult r (λ s. Turn G κ (move.Land side pick) m s o) (λ why. TurnRefused G (move.Land side pick) m why o) → ComesTo G κ n words (Land side pick) c m log (Ok c) o log
-      land_comes side pick r o t = let h = landed r o t in record { events = history.lands side pick ∷ []; cs = []; Makes = subst (λ (s : Standing). Makes κ n (stands_at words c.accepted m) (Land side pick) (history.lands side pick ∷ []) [] s) (sym (same_standing refl (ap (λ (p : Moment K X). putting p.feeder.stage) h.after) (ap (λ (p : Moment K X). taking p.drawer.stage) h.after))) runs.Makes.lands; leads = history.first (history.landing h) history.at_rest; place = λ s. absurd (no_landing_steps s); noted = noted_none n c.calls log }
+      land_comes side pick r o t = let h = landed r o t in record { events = history.lands side pick ∷ []; cs = []; makes = subst (λ (s : Standing). Makes κ n (stands_at words c.accepted m) (Land side pick) (history.lands side pick ∷ []) [] s) (sym (same_standing refl (ap (λ (p : Moment K X). putting p.feeder.stage) h.after) (ap (λ (p : Moment K X). taking p.drawer.stage) h.after))) runs.Makes.lands; leads = history.first (history.landing h) history.at_rest; place = λ s. absurd (no_landing_steps s); noted = noted_none n c.calls log }
 
 module _ {K X : Type 0} (G : memory.Ghosts X) (κ : kind.Ghosts K) where
   -- what becomes of a move, by the result

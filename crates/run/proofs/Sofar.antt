@@ -51,7 +51,7 @@ module _ {K X : Type 0} (G : memory.Ghosts X) (κ : kind.Ghosts K) where
     run_more {bytes} {log} {c} {m} {o} n byte {d} {m'} {log'} p e a l k q = record {
       events = p.events ++ q.events;
       records = p.records ++ rs;
-      runs = runs.Runs.one_more byte p.runs a (λ s. (let h = q.place s in omega (arith, p.counted))) (subst (λ (i : ℕ). Makes κ i (stands_at words c.accepted m) o q.events rs (stands_at words d.accepted m')) e q.Makes);
+      runs = runs.Runs.one_more byte p.runs a (λ s. (let h = q.place s in omega (arith, p.counted))) (subst (λ (i : ℕ). Makes κ i (stands_at words c.accepted m) o q.events rs (stands_at words d.accepted m')) e q.makes);
       leads = leads_join G κ p.leads q.leads;
       counted = counted;
       few = rw q.noted.counted (omega (arith, place_kept rs log log' c.calls (length rs) (omega (arith, p.few)) refl q.noted.logged (k ∙ sym l)));

@@ -58,7 +58,7 @@ module _ {K X : Type 0} (G : memory.Ghosts X) (κ : kind.Ghosts K) where
   pub record Moved (n : ℕ) (words : List ℕ) (o : Order) (c : Counts) (m : Moment K X) (log : List Record) (d : Counts) (m' : Moment K X) (log' : List Record) : Type 0 where
     pub events : List (Event K)
     pub cs : List Call
-    pub Makes : Makes κ n (stands_at words c.accepted m) o events (map (at_move n) cs) (stands_at words d.accepted m')
+    pub makes : Makes κ n (stands_at words c.accepted m) o events (map (at_move n) cs) (stands_at words d.accepted m')
     pub leads : Leads G κ m events m'
     pub place : Steps (stands_at words c.accepted m) o → c.calls < length log
     pub noted : Noted n cs c.calls log log' d.calls

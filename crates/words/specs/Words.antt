@@ -1,7 +1,6 @@
 -- The word of each kind of item. A word has 64 bits; byte 7 is the most significant.
 use Rattle.std.specs.Prelude.{ℕ, ◌+◌, ◌*◌, ◌^◌, cond, ℤ, Some, None, Option, ◌==◌}
-use Rattle.std.specs.Int.{w16}
-use Rattle.std.proofs.Common.{of_z, to_z}
+use Rattle.std.specs.Int.{w16, cast_unsigned, cast_signed}
 use Rattle.words.specs.declared.edits.Edit.{Edit}
 use Rattle.words.specs.declared.readings.Reading.{Reading}
 use Rattle.words.specs.declared.rings.RingNumber.{RingNumber}
@@ -17,11 +16,11 @@ edit_word e = byte 7 (code e.setting) + byte 6 e.deck + byte 5 e.stage + byte 4 
 -- a temperature in two's complement of 16 bits; that of an open probe is 0x8000
 abbrev pub temperature_bits : Option ℤ → ℕ
 temperature_bits None = 0x8000
-temperature_bits (Some tenths) = of_z w16 tenths
+temperature_bits (Some tenths) = cast_unsigned w16 tenths
 
 -- the temperature that 16 bits stand for
 abbrev pub bits_temperature : ℕ → Option ℤ
-bits_temperature n = cond (n == 0x8000) None (Some (to_z w16 n))
+bits_temperature n = cond (n == 0x8000) None (Some (cast_signed w16 n))
 
 abbrev pub reading_word : Reading → ℕ
 reading_word r =
