@@ -1,4 +1,4 @@
-//! Answers a table of run books: the listing of each, as the exported function writes it.
+//! Answers a table of run books: the listing of each, as `bench_listing` writes it.
 #![tactic(auto)]
 
 mod bytes;
