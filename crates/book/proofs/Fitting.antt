@@ -15,10 +15,11 @@ use Rattle.run.specs.declared.records.Record.{Record}
 use Rattle.run.specs.declared.tallies.Tally.{Tally}
 use Rattle.listing.specs.Bounds.{Early}
 use Rattle.book.specs.Choices.{Begun, ComesTo, Bare, BareBuffer, buffered, WithDepth, WithMemory, WithKind, RunBy, prompt, loose, edits, readings}
-use Rattle.book.specs.declared.settings.ItemKind.{ItemKind}
-use Rattle.book.specs.declared.settings.ItemKind.TheVariants as item
-use Rattle.book.specs.declared.settings.MemoryKind.{MemoryKind}
-use Rattle.book.specs.declared.settings.MemoryKind.TheVariants as memory_kind
+use Rattle.book.specs.declared.codes.ItemKind.{ItemKind}
+use Rattle.book.specs.declared.codes.ItemKind.TheVariants as item
+use Rattle.book.specs.declared.codes.MemoryKind.{MemoryKind}
+use Rattle.book.specs.declared.codes.MemoryKind.TheVariants as memory_kind
+use Rattle.book.specs.Settings.{entries_of}
 use Rattle.book.specs.declared.settings.Settings.{Settings}
 
 early_both : (rs qs : List Record) → Early rs → Early qs → Early (rs ++ qs)
@@ -88,4 +89,4 @@ kind_fits item.Edit = memory_fits edits
 kind_fits item.Reading = memory_fits readings
 
 pub run_fits : (s : Settings) (words moves : List ℕ) (r : Result Tally RunFault) (records : List Record) → RunBy s words moves r records → Fitting words moves r records
-run_fits s words moves r records h = kind_fits s.kind s.memory s.depth s.rings s.cells words moves r records h
+run_fits s words moves r records h = kind_fits s.kind s.memory (entries_of s.depth) s.rings s.cells words moves r records h

@@ -1,5 +1,4 @@
 pub mod Pairs
-pub mod Judging
 pub mod Passing
 pub mod Copying
 pub mod Beginning

@@ -1,12 +1,12 @@
 -- What checks that refuse nothing say of the book.
-use Rattle.std.proofs.Common.{◌≡◌, ℕ, ◌%◌, ◌≤◌, Bool, true, false, cond, ◌&&◌, leb, List, [], ◌∷◌, length, get_or, drop, Some, None, Option, sym, refl, ap, ◌∙◌, subst, arith, eqb-true, leb-true}
-use Rattle.book.specs.Checks.{Refusal, Check, first_refusal}
+use Rattle.std.proofs.Common.{◌≡◌, ℕ, ◌%◌, ◌≤◌, Bool, true, false, cond, ◌&&◌, leb, List, [], ◌∷◌, length, get_or, drop, Some, None, Option, refl, subst, arith, eqb-true, leb-true}
+use Rattle.listing.specs.declared.lines.Refusal.{Refusal}
+use Rattle.book.specs.Checks.{Check, first_refusal}
 use Rattle.book.specs.Layout.{WellLaidOut, header_checks, layout_of, stop}
-use Rattle.book.specs.Settings.{settings_checks, Settled, SettingsInRange, from_to}
-use Rattle.book.specs.Plans.{plan_checks, settings_bytes, Planned}
+use Rattle.book.specs.Settings.{settings_checks, Settled, SettingsInRange, entries_of, from_to}
+use Rattle.book.specs.Plans.{Planned}
 use Rattle.book.specs.declared.header.Layout.{Layout}
 use Rattle.book.specs.declared.settings.Settings.{Settings}
-use Rattle.book.proofs.Judging.{after}
 
 -- every check holds
 abbrev Passed : List Check → Type 0
@@ -53,14 +53,8 @@ in_range b at s e w =
     record {
       rings = ranged 2 8 (get_or b 1 0) s.rings p.1.0 w.rings;
       cells = ranged 1 64 (get_or b 2 0) s.cells p.1.1.0 w.cells;
-      depth = (ranged 0 16 (get_or b 4 0) s.depth p.1.1.1.1.0 w.depth).1;
+      depth = (ranged 0 16 (get_or b 4 0) (entries_of s.depth) p.1.1.1.1.0 w.depth).1;
     }
-
--- the settings decide where the header is good
-pub settings_decide : (book : List ℕ) (l : Layout) (o : Option Refusal) → first_refusal (header_checks book) ≡ None → l ≡ layout_of book → first_refusal (settings_checks (drop l.settings.offset book) l.settings.offset) ≡ o → first_refusal (plan_checks book) ≡ o
-settings_decide book l o n e h =
-    after (header_checks book) (settings_checks (settings_bytes book) (layout_of book).settings.offset) n
-    ∙ (ap (λ (x : Layout). first_refusal (settings_checks (drop x.settings.offset book) x.settings.offset)) (sym e) ∙ h)
 
 pub planned : (book : List ℕ) (l : Layout) (s : Settings) → first_refusal (header_checks book) ≡ None → l ≡ layout_of book → first_refusal (settings_checks (drop l.settings.offset book) l.settings.offset) ≡ None → Settled (drop l.settings.offset book) s → Planned book record { layout = l; settings = s }
 planned book l s n e h w = record {

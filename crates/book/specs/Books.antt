@@ -1,6 +1,5 @@
 -- What the run of a book leaves in its log, and its listing.
 use Rattle.std.specs.Prelude.{◌≡◌, ℕ, ◌≤◌, List, [], length, take as first, drop, Some, None, Ok, Err, Option, Result}
-use Rattle.run.specs.Refusals.{run_number, stop_number}
 use Rattle.run.specs.declared.faults.RunFault.{RunFault}
 use Rattle.run.specs.declared.faults.Stop.{Stop}
 use Rattle.run.specs.declared.records.Record.{Record}
@@ -8,15 +7,14 @@ use Rattle.run.specs.declared.tallies.Tally.{Tally}
 use Rattle.listing.specs.Listing.{listing}
 use Rattle.listing.specs.Places.{Placed}
 use Rattle.listing.specs.declared.lines.End.{End}
-use Rattle.book.specs.Checks.{Refusal, refuse, first_refusal}
+use Rattle.listing.specs.declared.lines.Refusal.{Refusal}
+use Rattle.book.specs.Checks.{first_refusal}
 use Rattle.book.specs.Layout.{layout_of}
 use Rattle.book.specs.Settings.{Settled}
-use Rattle.book.specs.Faults.{run_byte, stop_byte}
+use Rattle.book.specs.Faults.{run_refusal, stop_refusal}
 use Rattle.book.specs.ItemWords.{words_in}
 use Rattle.book.specs.Plans.{plan_checks, settings_bytes}
-use Rattle.book.specs.Choices.{RunBy}
-use Rattle.book.specs.declared.faults.BookFault.{BookFault}
-use Rattle.book.specs.declared.faults.BookFault.TheVariants as fault
+use Rattle.book.specs.Choices.{RunBy, records_in}
 use Rattle.book.specs.declared.header.Layout.{Layout}
 use Rattle.book.specs.declared.header.Part.{Part}
 use Rattle.book.specs.declared.settings.Settings.{Settings}
@@ -33,16 +31,16 @@ book_moves book = bytes_of (layout_of book).moves book
 
 -- the end of a book that is refused before the first move
 abbrev pub refused_end : Refusal → End
-refused_end q = record { moves = 0; number = q.number; byte = q.byte }
+refused_end q = record { moves = 0; refusal = Some q }
 
 -- the end of a run: how many moves it made, and what stopped it
 abbrev pub stopped_end : Layout → ℕ → Option Stop → End
-stopped_end l made None = record { moves = made; number = 0; byte = 0 }
-stopped_end l made (Some s) = record { moves = made; number = stop_number s; byte = stop_byte l s }
+stopped_end l made None = record { moves = made; refusal = None }
+stopped_end l made (Some s) = record { moves = made; refusal = Some (stop_refusal l s) }
 
 abbrev pub end_of : Layout → Result Tally RunFault → End
 end_of l (Ok t) = stopped_end l t.moves t.stop
-end_of l (Err f) = refused_end (refuse (run_number f) (run_byte l f))
+end_of l (Err f) = refused_end (run_refusal l f)
 
 -- the run of a book whose header and settings are good
 pub record BookRun (book : List ℕ) (records : List Record) (end : End) : Type 0 where
@@ -68,9 +66,6 @@ pub record Listed (book before after : List ℕ) (count : ℕ) : Type 0 where
   pub placed : Placed (listing records end) before after count
   pub room : 37938 ≤ length before → length (listing records end) ≤ length before
 
--- the run by a plan, with its fault inside the book's
-abbrev pub PlanRun : List ℕ → Settings → Result Tally BookFault → List Record → Type 0
-PlanRun book s (Ok t) log = RunBy s (book_words book) (book_moves book) (Ok t) (first t.calls log)
-PlanRun book s (Err (fault.Layout b)) log = ⊥
-PlanRun book s (Err (fault.Setting b)) log = ⊥
-PlanRun book s (Err (fault.Run f)) log = RunBy s (book_words book) (book_moves book) (Err f) []
+-- the run by a plan
+abbrev pub PlanRun : List ℕ → Settings → Result Tally RunFault → List Record → Type 0
+PlanRun book s r log = RunBy s (book_words book) (book_moves book) r (records_in r log)

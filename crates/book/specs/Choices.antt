@@ -17,11 +17,12 @@ use Rattle.run.specs.Promised.{RanAsPromised, Unbegun}
 use Rattle.run.specs.declared.faults.RunFault.{RunFault}
 use Rattle.run.specs.declared.records.Record.{Record}
 use Rattle.run.specs.declared.tallies.Tally.{Tally}
-use Rattle.book.specs.declared.settings.ItemKind.{ItemKind}
-use Rattle.book.specs.declared.settings.ItemKind.TheVariants as item
-use Rattle.book.specs.declared.settings.MemoryKind.{MemoryKind}
-use Rattle.book.specs.declared.settings.MemoryKind.TheVariants as memory_kind
+use Rattle.book.specs.declared.codes.ItemKind.{ItemKind}
+use Rattle.book.specs.declared.codes.ItemKind.TheVariants as item
+use Rattle.book.specs.declared.codes.MemoryKind.{MemoryKind}
+use Rattle.book.specs.declared.codes.MemoryKind.TheVariants as memory_kind
 use Rattle.book.specs.declared.settings.Settings.{Settings}
+use Rattle.book.specs.Settings.{entries_of}
 
 -- kinds and memories as the code has them
 abbrev pub edits : kind.Ghosts Edit
@@ -88,7 +89,7 @@ WithKind item.Reading = WithMemory readings
 
 -- a run of these words and moves by the settings, and the records of its log
 abbrev pub RunBy : Settings → List ℕ → List ℕ → Result Tally RunFault → List Record → Type 0
-RunBy s words moves r records = WithKind s.kind s.memory s.depth s.rings s.cells words moves r records
+RunBy s words moves r records = WithKind s.kind s.memory (entries_of s.depth) s.rings s.cells words moves r records
 
 -- the records that a run leaves at the start of its log
 abbrev pub records_in : Result Tally RunFault → List Record → List Record

@@ -1,6 +1,7 @@
 -- How a run book is laid out, and what is checked of its header.
 use Rattle.std.specs.Prelude.{◌≡◌, ℕ, ◌+◌, ◌*◌, ◌%◌, ◌≤◌, List, [], ◌∷◌, ◌++◌, length, ◌==◌, nat_le, slice_index}
-use Rattle.book.specs.Checks.{Check, check, Refusal, refuse}
+use Rattle.listing.specs.declared.lines.Refusal.{Refusal}
+use Rattle.book.specs.Checks.{Check, check, refuse}
 use Rattle.book.specs.declared.header.Part.{Part}
 use Rattle.book.specs.declared.header.Header.{Header}
 use Rattle.book.specs.declared.header.Layout.{Layout}

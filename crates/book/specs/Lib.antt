@@ -1,5 +1,6 @@
 pub mod Checks
 pub mod Layout
+pub mod Codes
 pub mod Settings
 pub mod Faults
 pub mod ItemWords

@@ -1,24 +1,12 @@
 -- The settings of a run book, and what is checked of them.
-use Rattle.std.specs.Prelude.{◌≡◌, ℕ, ◌+◌, ◌≤◌, Bool, ◌&&◌, ◌||◌, List, [], ◌∷◌, ◌==◌, nat_le, slice_index}
-use Rattle.book.specs.Checks.{Check, check, Refusal, refuse}
-use Rattle.book.specs.declared.settings.ItemKind.{ItemKind}
-use Rattle.book.specs.declared.settings.ItemKind.TheVariants.{Edit, Reading}
-use Rattle.book.specs.declared.settings.MemoryKind.{MemoryKind}
-use Rattle.book.specs.declared.settings.MemoryKind.TheVariants.{Prompt, Loose}
+use Rattle.std.specs.Prelude.{◌≡◌, ℕ, ◌+◌, ◌≤◌, Bool, ◌&&◌, List, [], ◌∷◌, Some, None, Option, nat_le, slice_index}
+use Rattle.book.specs.Checks.{Check, check, refuse}
+use Rattle.listing.specs.declared.lines.Refusal.{Refusal}
+use Rattle.book.specs.Codes.{kind_code, memory_code, one_or_two}
+use Rattle.book.specs.declared.depths.Depth.{Depth}
 use Rattle.book.specs.declared.settings.Settings.{Settings}
 use Rattle.book.specs.declared.settings.BadSetting.{BadSetting}
 use Rattle.book.specs.declared.settings.BadSetting.TheVariants.{Unknown, OutOfRange}
-
-abbrev pub kind_code : ItemKind → ℕ
-kind_code Edit = 1
-kind_code Reading = 2
-
-abbrev pub memory_code : MemoryKind → ℕ
-memory_code Prompt = 1
-memory_code Loose = 2
-
-abbrev pub one_or_two : ℕ → Bool
-one_or_two n = n == 1 || n == 2
 
 abbrev pub from_to : ℕ → ℕ → ℕ → Bool
 from_to low high n = nat_le low n && nat_le n high
@@ -39,16 +27,21 @@ abbrev pub setting_refusal : BadSetting → Refusal
 setting_refusal (Unknown byte) = refuse 10 byte
 setting_refusal (OutOfRange byte) = refuse 3 byte
 
+-- the entries that a buffer keeps of each side: none without one
+abbrev pub entries_of : Option Depth → ℕ
+entries_of None = 0
+entries_of (Some d) = d.entries
+
 -- the settings that the bytes give
 pub record Settled (b : List ℕ) (s : Settings) : Type 0 where
   pub kind : kind_code s.kind ≡ slice_index b 0
   pub rings : s.rings ≡ slice_index b 1
   pub cells : s.cells ≡ slice_index b 2
   pub memory : memory_code s.memory ≡ slice_index b 3
-  pub depth : s.depth ≡ slice_index b 4
+  pub depth : entries_of s.depth ≡ slice_index b 4
 
 -- a lane and a buffer can be made by these numbers
 pub record SettingsInRange (s : Settings) : Type 0 where
   pub rings : (2 ≤ s.rings) × (s.rings ≤ 8)
   pub cells : (1 ≤ s.cells) × (s.cells ≤ 64)
-  pub depth : s.depth ≤ 16
+  pub depth : entries_of s.depth ≤ 16

@@ -1,27 +1,21 @@
 //! A run book, run and listed.
-ghost use Rattle.std.specs.Prelude.{◌≡◌, ◌≤◌, length, take as first};
+ghost use Rattle.std.specs.Prelude.{◌≡◌, ◌<◌, ◌≤◌, [], length, IfSome, unwrap_or};
 ghost use Rattle.listing.specs.Bounds.{Early};
 ghost use Rattle.book.specs.Layout.{stop as stop_of};
-ghost use Rattle.book.specs.Faults.{book_refusal, WithinBook, StopsWithinBook};
+ghost use Rattle.book.specs.Faults.{WithinBook, StopsWithinBook};
 ghost use Rattle.book.specs.Plans.{Planned};
 ghost use Rattle.book.specs.Books.{bytes_of, refused_end, stopped_end, PlanRun, Outcome, Listed};
 
-use crate::choices::run_by;
-use crate::faults::{BookFault, stop_byte};
+use crate::choices::{Asked, Log};
+use crate::faults::{run_refusal, stop_refusal};
 use crate::header::{Layout, Part};
-use crate::item_words::read_words;
+use crate::item_words::{Words, read_words};
 use crate::plans::{Plan, read_plan};
-use listing::{End, put_listing};
-use run::{Answer, Record, Tally};
+use listing::{End, Refusal, put_listing};
+use run::{Answer, Record, RunFault, Tally};
 
-// Stands for the layout of a book that is not read so far: its faults name their byte themselves.
-const NOWHERE: Part = Part { offset: 0, size: 0 };
-
-const UNREAD: Layout = Layout {
-    settings: NOWHERE,
-    words: NOWHERE,
-    moves: NOWHERE,
-};
+/// A place with so many bytes has room for the listing of any book.
+pub const LISTING_ROOM: usize = 37938;
 
 fn part_of(book: &[u8], part: Part) -> &[u8]
     requires { stop_of part ≤ length book.now }
@@ -32,87 +26,77 @@ fn part_of(book: &[u8], part: Part) -> &[u8]
 }
 
 // Copies the words out of the book, and makes the run.
-fn run_plan(plan: &Plan, book: &[u8], log: &mut [Record]) -> Result<Tally, BookFault>
-    requires { Planned book.now plan.now × (length log.old ≡ 1024) }
+fn run_plan(plan: &Plan, book: &[u8], log: &mut Log) -> Result<Tally, RunFault>
+    requires { Planned book.now plan.now }
     ensures { PlanRun book.now plan.now.settings result log.new }
 {
-    let mut words = [0u64; 8188];
-    let count = read_words(part_of(book, plan.layout.words), &mut words);
-    let moves = part_of(book, plan.layout.moves);
-    Ok(run_by(plan.settings, &words[0..count], moves, log)?)
+    let mut place: Words = [0; 8188];
+    let asked = Asked {
+        settings: plan.settings,
+        words: read_words(part_of(book, plan.layout.words), &mut place),
+        moves: part_of(book, plan.layout.moves),
+    };
+    asked.run(log)
 }
 
-/// How many records a book's run leaves, and its end.
+/// The records that the run of a book leaves, and its end.
 #[derive(Clone, Copy)]
-struct Summary {
-    calls: usize,
+struct Summary<'a> {
+    records: &'a [Record],
     end: End,
 }
 
-fn refused(layout: &Layout, fault: BookFault) -> Summary
-    requires { WithinBook fault }
-    ensures calls { result.calls ≡ 0 }
-    ensures end { result.end ≡ refused_end (book_refusal layout.now fault) }
+fn refused(refusal: Refusal) -> Summary<'static>
+    ensures none { result.records.now ≡ [] }
+    ensures end { result.end ≡ refused_end refusal }
 {
     Summary {
-        calls: 0,
+        records: &[],
         end: End {
             moves: 0,
-            number: fault.number(),
-            byte: fault.byte(layout),
+            refusal: Some(refusal),
         },
     }
 }
 
-fn stopped(layout: &Layout, tally: Tally) -> Summary
+fn end_of(layout: &Layout, tally: Tally) -> End
     requires { StopsWithinBook tally.stop }
-    ensures calls { result.calls ≡ tally.calls }
-    ensures end { result.end ≡ stopped_end layout.now tally.moves tally.stop }
+    ensures { result ≡ stopped_end layout.now tally.moves tally.stop }
 {
-    let moves = tally.moves;
-    let end = match tally.stop {
-        None => End {
-            moves,
-            number: 0,
-            byte: 0,
-        },
-        Some(stop) => End {
-            moves,
-            number: stop.number(),
-            byte: stop_byte(stop, layout),
-        },
-    };
-    Summary {
-        calls: tally.calls,
-        end,
+    End {
+        moves: tally.moves,
+        refusal: tally.stop.map(|stop| stop_refusal(layout, stop)),
     }
 }
 
-fn run_book(book: &[u8], log: &mut [Record]) -> Summary
-    requires { length log.old ≡ 1024 }
-    ensures few { result.calls ≤ 1024 }
-    ensures early { Early (first result.calls log.new) }
-    ensures outcome { Outcome book.now (first result.calls log.new) result.end }
+fn run_book<'a>(book: &[u8], log: &'a mut Log) -> Summary<'a>
+    ensures few { length result.records.now ≤ 1024 }
+    ensures early { Early result.records.now }
+    ensures outcome { Outcome book.now result.records.now result.end }
 {
     match read_plan(book) {
         Ok(plan) => match run_plan(&plan, book, log) {
-            Ok(tally) => stopped(&plan.layout, tally),
-            Err(fault) => refused(&plan.layout, fault),
+            Ok(tally) => Summary {
+                records: &log[..tally.calls],
+                end: end_of(&plan.layout, tally),
+            },
+            Err(fault) => refused(run_refusal(&plan.layout, fault)),
         },
-        Err(fault) => refused(&UNREAD, fault),
+        Err(fault) => refused(fault.refusal()),
     }
 }
 
 /// Runs the book and writes the listing of its run to the start of the place; answers the listing's length.
-/// A place too short is left unwritten, and 0 answered; 37,938 bytes always suffice.
-pub fn bench_listing(book: &[u8], place: &mut [u8]) -> usize
-    ensures { Listed book.now place.old place.new result }
+/// A place too short is left unwritten, and has none; 37,938 bytes always suffice.
+pub fn bench_listing(book: &[u8], place: &mut [u8]) -> Option<usize>
+    ensures listed { Listed book.now place.old place.new (unwrap_or result 0) }
+    ensures within { IfSome result (λ n. (0 < n) × (n ≤ length place.old)) }
 {
-    let mut log = [Record {
+    let mut log: Log = [Record {
         index: 0,
         answer: Answer::Empty,
         steps: 0,
     }; 1024];
     let ran = run_book(book, &mut log);
-    put_listing(&log[0..ran.calls], &ran.end, place)
+    put_listing(ran.records, &ran.end, place)
 }

@@ -1,11 +1,12 @@
-//! Why a book is refused, each fault inside that of the part above.
+//! Why a book is refused, and what a baker is told of it.
 ghost use Rattle.std.specs.Prelude.{◌≡◌, ◌+◌, ◌≤◌};
 ghost use Rattle.run.specs.Refusals.{stop_index};
-ghost use Rattle.book.specs.declared.faults.BookFault.TheVariants.{Layout as InLayout, Setting as InSetting, Run as InRun};
-ghost use Rattle.book.specs.Faults.{book_number, fault_byte, stop_byte, WithinBook};
+ghost use Rattle.book.specs.declared.faults.BookFault.TheVariants.{Layout as InLayout, Setting as InSetting};
+ghost use Rattle.book.specs.Faults.{book_number, fault_byte, book_refusal, run_refusal, stop_refusal, WithinBook};
 
 use crate::header::{BadLayout, Layout};
 use crate::settings::BadSetting;
+use listing::Refusal;
 use run::{RunFault, Stop, WordFault};
 
 /// Why a book is not run.
@@ -13,9 +14,9 @@ use run::{RunFault, Stop, WordFault};
 pub enum BookFault {
     Layout(BadLayout),
     Setting(BadSetting),
-    Run(RunFault),
 }
 
+// By hand, since a derived `From` does not say which fault it makes.
 impl From<BadLayout> for BookFault {
     ghost from_gives = { λ e r. r ≡ InLayout e };
 
@@ -32,48 +33,60 @@ impl From<BadSetting> for BookFault {
     }
 }
 
-impl From<RunFault> for BookFault {
-    ghost from_gives = { λ e r. r ≡ InRun e };
-
-    fn from(e: RunFault) -> BookFault {
-        BookFault::Run(e)
-    }
-}
-
 impl BookFault {
     /// The number that a baker sees.
     pub fn number(self) -> u8
         ensures { result ≡ book_number self }
     {
         match self {
-            BookFault::Layout(_) => 10,
-            BookFault::Setting(BadSetting::Unknown { byte: _ }) => 10,
+            BookFault::Layout(_) | BookFault::Setting(BadSetting::Unknown { byte: _ }) => 10,
             BookFault::Setting(BadSetting::OutOfRange { byte: _ }) => 3,
-            BookFault::Run(fault) => fault.number(),
         }
     }
 
     /// The byte of the book that it names.
-    pub(crate) fn byte(self, layout: &Layout) -> usize
-        requires { WithinBook self }
-        ensures { result ≡ fault_byte layout.now self }
+    pub(crate) fn byte(self) -> usize
+        ensures { result ≡ fault_byte self }
     {
         match self {
-            BookFault::Layout(BadLayout { byte }) => byte,
-            BookFault::Setting(BadSetting::Unknown { byte }) => byte,
-            BookFault::Setting(BadSetting::OutOfRange { byte }) => byte,
-            BookFault::Run(RunFault::Opening(_)) => layout.settings.offset as usize,
-            BookFault::Run(RunFault::Word(WordFault { index, fault: _ })) => {
-                layout.words.offset as usize + 8 * index
-            }
+            BookFault::Layout(BadLayout { byte })
+            | BookFault::Setting(BadSetting::Unknown { byte } | BadSetting::OutOfRange { byte }) =>
+                byte,
+        }
+    }
+
+    pub(crate) fn refusal(self) -> Refusal
+        ensures { result ≡ book_refusal self }
+    {
+        Refusal {
+            number: self.number(),
+            byte: self.byte(),
         }
     }
 }
 
-/// The byte of the move that a run stops at.
-pub(crate) fn stop_byte(stop: Stop, layout: &Layout) -> usize
-    requires { stop_index stop ≤ 65536 }
-    ensures { result ≡ stop_byte layout.now stop }
+/// What a run is refused for before its first move, in a book of this layout.
+pub(crate) fn run_refusal(layout: &Layout, fault: RunFault) -> Refusal
+    requires { WithinBook fault }
+    ensures { result ≡ run_refusal layout.now fault }
 {
-    layout.moves.offset as usize + stop.index()
+    let byte = match fault {
+        RunFault::Opening(_) => layout.settings.offset as usize,
+        RunFault::Word(WordFault { index, fault: _ }) => layout.words.offset as usize + 8 * index,
+    };
+    Refusal {
+        number: fault.number(),
+        byte,
+    }
+}
+
+/// What stopped a run, with the byte of the move that it stopped at.
+pub(crate) fn stop_refusal(layout: &Layout, stop: Stop) -> Refusal
+    requires { stop_index stop ≤ 65536 }
+    ensures { result ≡ stop_refusal layout.now stop }
+{
+    Refusal {
+        number: stop.number(),
+        byte: layout.moves.offset as usize + stop.index(),
+    }
 }

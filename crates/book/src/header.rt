@@ -1,5 +1,8 @@
 //! The header of a run book.
 
+/// How many bytes a book may have.
+pub const LONGEST_BOOK: usize = 65536;
+
 /// A part of the book: where it starts, and how many bytes it has.
 #[derive(Clone, Copy, Debug, PartialEq, Eq)]
 pub struct Part {

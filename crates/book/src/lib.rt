@@ -3,6 +3,8 @@
 
 mod books;
 mod choices;
+mod codes;
+mod depths;
 mod faults;
 mod header;
 mod item_words;
@@ -10,4 +12,5 @@ mod plans;
 mod reading;
 mod settings;
 
-pub use books::bench_listing;
+pub use books::{LISTING_ROOM, bench_listing};
+pub use header::LONGEST_BOOK;

@@ -1,19 +1,10 @@
 //! The settings of a run, read from their five bytes.
-ghost use Rattle.std.specs.Prelude.{◌≡◌, ◌+◌, ◌≤◌, [], ◌∷◌, length, drop, IfOk};
+ghost use Rattle.std.specs.Prelude.{◌≡◌, ◌+◌, ◌≤◌, [], ◌∷◌, length, drop, IfOk, Ok, Err, MatchResult};
 ghost use Rattle.book.specs.Checks.{Judged, check as check_of};
-ghost use Rattle.book.specs.Settings.{settings_checks, setting_refusal, Settled, kind_code, memory_code, one_or_two, from_to};
+ghost use Rattle.book.specs.Settings.{settings_checks, setting_refusal, Settled, entries_of, from_to};
 
-#[derive(Clone, Copy, Debug, PartialEq, Eq)]
-pub enum ItemKind {
-    Edit,
-    Reading,
-}
-
-#[derive(Clone, Copy, Debug, PartialEq, Eq)]
-pub enum MemoryKind {
-    Prompt,
-    Loose,
-}
+use crate::codes::{ItemKind, MemoryKind};
+use crate::depths::Depth;
 
 #[derive(Clone, Copy, Debug, PartialEq, Eq)]
 pub struct Settings {
@@ -21,8 +12,8 @@ pub struct Settings {
     pub rings: u8,
     pub cells: u8,
     pub memory: MemoryKind,
-    /// Of the buffer above the memory; 0 for none.
-    pub depth: u8,
+    /// Of the buffer above the memory, if there is one.
+    pub depth: Option<Depth>,
 }
 
 /// A setting that is refused, and its byte in the book.
@@ -34,36 +25,37 @@ pub enum BadSetting {
     OutOfRange { byte: usize },
 }
 
-fn item_kind(code: u8, byte: usize) -> Result<ItemKind, BadSetting>
-    ensures judged { Judged setting_refusal (check_of (one_or_two code) 10 byte ∷ []) result }
-    ensures kind { IfOk result (λ k. kind_code k ≡ code) }
+// What this byte of the book stands for.
+fn known<T: TryFrom<u8>>(code: u8, byte: usize) -> Result<T, BadSetting>
+where
+    T::Error: Drop,
+    ensures { MatchResult result
+        (λ x. T.try_from_gives code (Ok x))
+        (λ e. (e ≡ BadSetting.Unknown byte) × ((why : T.Error) × T.try_from_gives code (Err why))) }
 {
-    match code {
-        1 => Ok(ItemKind::Edit),
-        2 => Ok(ItemKind::Reading),
-        _ => Err(BadSetting::Unknown { byte }),
-    }
-}
-
-fn memory_kind(code: u8, byte: usize) -> Result<MemoryKind, BadSetting>
-    ensures judged { Judged setting_refusal (check_of (one_or_two code) 10 byte ∷ []) result }
-    ensures memory { IfOk result (λ k. memory_code k ≡ code) }
-{
-    match code {
-        1 => Ok(MemoryKind::Prompt),
-        2 => Ok(MemoryKind::Loose),
-        _ => Err(BadSetting::Unknown { byte }),
-    }
+    T::try_from(code).map_err(|_| BadSetting::Unknown { byte })
 }
 
 fn in_range(n: u8, low: u8, high: u8, byte: usize) -> Result<u8, BadSetting>
     ensures judged { Judged setting_refusal (check_of (from_to low high n) 3 byte ∷ []) result }
     ensures same { IfOk result (λ k. k ≡ n) }
 {
-    if n < low || n > high {
-        return Err(BadSetting::OutOfRange { byte });
+    if (low..=high).contains(&n) {
+        Ok(n)
+    } else {
+        Err(BadSetting::OutOfRange { byte })
     }
-    Ok(n)
+}
+
+fn depth(entries: u8, byte: usize) -> Result<Option<Depth>, BadSetting>
+    ensures judged { Judged setting_refusal (check_of (from_to 0 16 entries) 3 byte ∷ []) result }
+    ensures depth { IfOk result (λ d. entries_of d ≡ entries) }
+{
+    match entries {
+        0 => Ok(None),
+        1..=16 => Ok(Some(Depth { entries })),
+        _ => Err(BadSetting::OutOfRange { byte }),
+    }
 }
 
 // The settings at the start of these bytes, which stand at `at` in the book.
@@ -72,15 +64,15 @@ fn settle(bytes: &[u8], at: usize) -> Result<Settings, BadSetting>
     ensures judged { Judged setting_refusal (settings_checks bytes.now at) result }
     ensures settled { IfOk result (λ s. Settled bytes.now s) }
 {
-    let [kind, rings, cells, memory, depth, ..] = bytes else {
+    let [kind, rings, cells, memory, entries, ..] = bytes else {
         unreachable()
     };
     Ok(Settings {
-        kind: item_kind(*kind, at)?,
+        kind: known(*kind, at)?,
         rings: in_range(*rings, 2, 8, at + 1)?,
         cells: in_range(*cells, 1, 64, at + 2)?,
-        memory: memory_kind(*memory, at + 3)?,
-        depth: in_range(*depth, 0, 16, at + 4)?,
+        memory: known(*memory, at + 3)?,
+        depth: depth(*entries, at + 4)?,
     })
 }
 

@@ -5,6 +5,7 @@ use crate::faults::Expected;
 use std::alloc::Global;
 use std::str::SplitWhitespace;
 
+// std and the crate hex read lower-case digits too, which a book is not typed in
 fn digit(letter: u8) -> Result<u8, Expected>
     ensures { IfOk result (λ d. d < 16) }
 {
@@ -25,16 +26,12 @@ fn push_pairs(book: &mut Vec<u8>, pairs: &str) -> anyhow::Result<()> {
     Ok(())
 }
 
-fn read_count(text: &str) -> Result<usize, Expected> {
-    match text.parse::<usize>() {
-        Ok(count) => Ok(count),
-        Err(_) => Err(Expected::Bytes),
-    }
-}
-
 fn push_part(book: &mut Vec<u8>, part: &str) -> anyhow::Result<()> {
     let (pairs, count) = match part.split_once("*") {
-        Some((pairs, count)) => (pairs, read_count(count)?),
+        Some((pairs, count)) => {
+            let count = count.parse::<usize>().map_err(|_| Expected::Bytes)?;
+            (pairs, count)
+        }
         None => (part, 1),
     };
     if pairs.is_empty() {

@@ -1,29 +1,17 @@
 //! Why a line of the table cannot be read.
-use std::error::Error;
-use std::fmt;
+use thiserror::Error;
 
 /// What a line should have had where it went wrong.
-#[derive(Clone, Copy, Debug)]
+#[derive(Clone, Copy, Debug, Error)]
 pub enum Expected {
+    #[error("expected book, place or #")]
     Request,
+    #[error("expected the book's name")]
     Name,
+    #[error("expected bytes as pairs of hexadecimal digits, with *COUNT to repeat them")]
     Bytes,
+    #[error("expected the place's length")]
     Length,
+    #[error("expected the end of the line")]
     End,
 }
-
-impl fmt::Display for Expected {
-    fn fmt<W: fmt::Write>(&self, f: &mut fmt::Formatter<W>) -> fmt::Result {
-        match self {
-            Expected::Request => f.write_str("expected book, place or #"),
-            Expected::Name => f.write_str("expected the book's name"),
-            Expected::Bytes => f.write_str(
-                "expected bytes as pairs of hexadecimal digits, with *COUNT to repeat them",
-            ),
-            Expected::Length => f.write_str("expected the place's length"),
-            Expected::End => f.write_str("expected the end of the line"),
-        }
-    }
-}
-
-impl Error for Expected {}

@@ -7,47 +7,31 @@ mod faults;
 use crate::bytes::read_bytes;
 use crate::faults::Expected;
 use anyhow::anyhow;
-use book::bench_listing;
+use book::{LISTING_ROOM, bench_listing};
 use std::io::Write;
 use std::str::SplitWhitespace;
 
-// enough for any listing: 1,024 lines of at most 37 bytes, and the last one
-const ROOM: usize = 38000;
 // what a place holds before the call; no listing has this byte
 const FILLER: u8 = b'~';
-
-fn is_unwritten(place: &[u8]) -> bool {
-    for byte in place {
-        if *byte != FILLER {
-            return false;
-        }
-    }
-    true
-}
 
 // the listing into a place of `room` bytes; what it leaves of the place must hold the filler still
 fn answer_book(rt: &HostRuntime, book: &[u8], room: usize) -> anyhow::Result<()> {
     let mut place = vec![in rt.alloc(); FILLER; room]?;
-    let len = bench_listing(book, &mut place);
-    let Some((listing, rest)) = place.as_slice().split_at_checked(len) else {
-        return Err(anyhow!("the listing ends behind its place"));
-    };
-    if !is_unwritten(rest) {
+    let length = bench_listing(book, &mut place);
+    let (listing, rest) = place.as_slice().split_at(length.unwrap_or(0));
+    if !rest.iter().all(|byte| *byte == FILLER) {
         return Err(anyhow!("the place is written behind the listing"));
     }
-    if listing.is_empty() {
-        println!(rt; "unwritten")?;
-    } else {
-        rt.stdout().write_all(listing)?;
+    match length {
+        None => println!(rt; "unwritten")?,
+        Some(_) => rt.stdout().write_all(listing)?,
     }
     Ok(())
 }
 
 fn read_length(tokens: &mut SplitWhitespace<'_>) -> Result<usize, Expected> {
     let text = tokens.next().ok_or(Expected::Length)?;
-    let Ok(length) = text.parse::<usize>() else {
-        return Err(Expected::Length);
-    };
+    let length = text.parse::<usize>().map_err(|_| Expected::Length)?;
     match tokens.next() {
         None => Ok(length),
         Some(_) => Err(Expected::End),
@@ -56,10 +40,9 @@ fn read_length(tokens: &mut SplitWhitespace<'_>) -> Result<usize, Expected> {
 
 // a line that only comments, or holds nothing
 fn is_silent(line: &str) -> bool {
-    match line.split_whitespace().next() {
-        None => true,
-        Some(word) => word.starts_with('#'),
-    }
+    line.split_whitespace()
+        .next()
+        .is_none_or(|word| word.starts_with('#'))
 }
 
 // answers one line, and gives the room that the next book has
@@ -75,7 +58,7 @@ fn answer_line(rt: &HostRuntime, line: &str, room: usize) -> anyhow::Result<usiz
             let book = read_bytes(rt.alloc(), &mut tokens)?;
             println!(rt; "book {name}")?;
             answer_book(rt, &book, room)?;
-            Ok(ROOM)
+            Ok(LISTING_ROOM)
         }
         Some("place") => {
             let length = read_length(&mut tokens)?;
@@ -87,7 +70,7 @@ fn answer_line(rt: &HostRuntime, line: &str, room: usize) -> anyhow::Result<usiz
 }
 
 fn run(rt: &HostRuntime) -> anyhow::Result<()> {
-    let mut room = ROOM;
+    let mut room = LISTING_ROOM;
     for (at, line) in rt.lines(rt.alloc()).enumerate() {
         match answer_line(rt, line?.as_str(), room) {
             Ok(next) => room = next,

@@ -17,8 +17,8 @@ use Rattle.lane.specs.declared.answers.PutAnswer.{PutAnswer}
 use Rattle.lane.specs.declared.answers.PutAnswer.TheVariants.{Accepted}
 use Rattle.lane.specs.declared.answers.TakeAnswer.{TakeAnswer}
 use Rattle.lane.specs.declared.answers.TakeAnswer.TheVariants.{Empty}
-use Rattle.lane.specs.declared.sides.Drawer as drawer
-use Rattle.lane.specs.declared.sides.Feeder as feeder
+use Rattle.lane.specs.Hands as hands
+use Rattle.lane.specs.Hands.{first_places}
 use Rattle.lane.specs.declared.sides.Put.{Put as PutStage}
 use Rattle.lane.specs.declared.sides.Put.TheVariants as put
 use Rattle.lane.specs.declared.sides.Take.{Take as TakeStage}
@@ -26,9 +26,8 @@ use Rattle.lane.specs.declared.sides.Take.TheVariants as take
 use Rattle.lane.specs.Calls.{Makes}
 use Rattle.lane.specs.Layout.{own_on}
 use Rattle.lane.specs.Moments.{Moment, PutStep, TakeStep, fed, drawn}
-use Rattle.lane.specs.Openings.{first_places}
 use Rattle.lane.specs.Stages.{putting, taking}
-use Rattle.lane.proofs.Busy.{no_both}
+use Rattle.lane.proofs.Underway.{no_both}
 use Rattle.queue.specs.declared.moves.Move.TheVariants.{Draw}
 use Rattle.queue.specs.declared.moves.Said.{Said}
 use Rattle.queue.specs.declared.moves.Said.TheVariants.{Put, Take}
@@ -99,27 +98,27 @@ never_bare : (e : Edit) → edit_word e ≡ 0 → ⊥
 never_bare e h = omega (arith, ints)
 
 module _ (number : ℕ) (i : Edit) (end : Moment Edit Loose) where
-  abbrev met : feeder.Feeder Edit → drawer.Drawer Edit → Loose → Moment Edit Loose
+  abbrev met : hands.Feeder Edit → hands.Drawer Edit → Loose → Moment Edit Loose
   met f d x = record { number = number; rings = 2; cells = 2; memory = x; feeder = f; drawer = d }
 
   -- the feeder, its put at P1, P7 and P8, and once it is over; the drawer, its take at T1, T2 and T9
-  abbrev putting_at : PutStage Edit → ℕ → feeder.Feeder Edit
+  abbrev putting_at : PutStage Edit → ℕ → hands.Feeder Edit
   putting_at s k = record { stage = s; steps = k; places = first_places 0 }
 
-  abbrev put_in : feeder.Feeder Edit
+  abbrev put_in : hands.Feeder Edit
   put_in = record { stage = put.Idle; steps = 0; places = own_on 2 (first_places 0) }
 
-  abbrev taking_at : TakeStage Edit → ℕ → drawer.Drawer Edit
+  abbrev taking_at : TakeStage Edit → ℕ → hands.Drawer Edit
   taking_at s k = record { stage = s; steps = k; places = first_places 1 }
 
   abbrev From : Moment Edit Loose → List (Event Edit) → Type 0
   From m h = Leads loose edits m h end
 
   -- a step leads on from what it gives
-  fed_on : (m n : Moment Edit Loose) {a : Option (Ended (PutAnswer Edit))} {h : List (Event Edit)} (f : feeder.Feeder Edit) → PutStep loose edits m n a → n.feeder ≡ f → From n h → From (fed m n.memory f) h
+  fed_on : (m n : Moment Edit Loose) {a : Option (Ended (PutAnswer Edit))} {h : List (Event Edit)} (f : hands.Feeder Edit) → PutStep loose edits m n a → n.feeder ≡ f → From n h → From (fed m n.memory f) h
   fed_on m n {h = h} f s e l = subst (λ k. From k h) (s.after ∙ ap (fed m n.memory) e) l
 
-  drawn_on : (m n : Moment Edit Loose) {a : Option (Ended (TakeAnswer Edit))} {h : List (Event Edit)} (d : drawer.Drawer Edit) → TakeStep loose edits m n a → n.drawer ≡ d → From n h → From (drawn m n.memory d) h
+  drawn_on : (m n : Moment Edit Loose) {a : Option (Ended (TakeAnswer Edit))} {h : List (Event Edit)} (d : hands.Drawer Edit) → TakeStep loose edits m n a → n.drawer ≡ d → From n h → From (drawn m n.memory d) h
   drawn_on m n {h = h} d s e l = subst (λ k. From k h) (s.after ∙ ap (drawn m n.memory) e) l
 
   module _ (words : List ℕ) (cell : get_or words 0 0 ≡ 0) (mark : get_or words 8 0 ≡ 1) (room : 0 < length words) where

@@ -17,31 +17,30 @@ use Rattle.lane.specs.declared.sides.Take.TheVariants as take
 use Rattle.lane.specs.Calls.{Makes}
 use Rattle.lane.specs.Layout.{own_cell, mark_cell, own_on, ring_word, NamesNoRing}
 use Rattle.lane.specs.PutTable as puts
-use Rattle.lane.specs.PutTable.{PutRow, feeder_to, feeder_done, put_over}
+use Rattle.lane.specs.PutTable.{PutRow}
 use Rattle.lane.specs.TakeTable as takes
-use Rattle.lane.specs.TakeTable.{TakeRow, drawer_to, drawer_done, take_over, NamesNoItem}
-use Rattle.lane.specs.declared.sides.Feeder as feeder
-use Rattle.lane.specs.declared.sides.Drawer as drawer
+use Rattle.lane.specs.TakeTable.{TakeRow, NamesNoItem}
+use Rattle.lane.specs.Hands as hands
 use Rattle.examples.specs.LooseHandOver.{loose, edits}
 
-module _ (f : feeder.Feeder Edit) (x : Loose) (e : feeder.Feeder Edit) (y : Loose) (a : Option (Ended (PutAnswer Edit))) where
+module _ (f : hands.Feeder Edit) (x : Loose) (e : hands.Feeder Edit) (y : Loose) (a : Option (Ended (PutAnswer Edit))) where
   abbrev pub PutGives : Put Edit → Type 0
   PutGives put.Idle = ⊥
   PutGives (put.P1 i) =
       (w : ℕ) × Makes loose (Look Feeder (own_cell 2 f.places) w) x y
-      × (((w ≡ 0) × (e ≡ feeder_to f (put.P7 i) f.places) × (a ≡ None)) ⊎ (w ≡ 0 → ⊥))
+      × (((w ≡ 0) × (e ≡ hands.hand_to f (put.P7 i) f.places) × (a ≡ None)) ⊎ (w ≡ 0 → ⊥))
   PutGives (put.P2 i) = Unit {0}
   PutGives (put.P3 i n) = Unit {0}
   PutGives (put.P4 i n) = Unit {0}
   PutGives (put.P5 i n) = Unit {0}
   PutGives (put.P6 i n) = Unit {0}
   PutGives (put.P7 i) =
-      Makes loose (Bar Feeder) x y × (e ≡ feeder_to f (put.P8 i) f.places) × (a ≡ None)
+      Makes loose (Bar Feeder) x y × (e ≡ hands.hand_to f (put.P8 i) f.places) × (a ≡ None)
   PutGives (put.P8 i) =
       Makes loose (Store Feeder (own_cell 2 f.places) (edit_word i)) x y
-      × (e ≡ feeder_done f (own_on 2 f.places)) × (a ≡ put_over f Accepted)
+      × (e ≡ hands.hand_done put.Idle (own_on 2 f.places)) × (a ≡ hands.over f Accepted)
 
-pub put_gives : (f : feeder.Feeder Edit) (x : Loose) {e : feeder.Feeder Edit} {y : Loose} {a : Option (Ended (PutAnswer Edit))} → PutRow loose edits 2 2 f x e y a → PutGives f x e y a f.stage
+pub put_gives : (f : hands.Feeder Edit) (x : Loose) {e : hands.Feeder Edit} {y : Loose} {a : Option (Ended (PutAnswer Edit))} → PutRow loose edits 2 2 f x e y a → PutGives f x e y a f.stage
 put_gives f x {e} {y} {a} (puts.PutRow.p1_bare i q l) = subst (PutGives f x e y a) (sym q) (0, l, inl (refl, refl, refl))
 put_gives f x {e} {y} {a} (puts.PutRow.p1_full i w q l n) = subst (PutGives f x e y a) (sym q) (w, l, inr n)
 put_gives f x {e} {y} {a} (puts.PutRow.p2_bare i q l) = subst (PutGives f x e y a) (sym q) tt
@@ -54,19 +53,19 @@ put_gives f x {e} {y} {a} (puts.PutRow.p6 i n q l) = subst (PutGives f x e y a) 
 put_gives f x {e} {y} {a} (puts.PutRow.p7 i q l) = subst (PutGives f x e y a) (sym q) (l, refl, refl)
 put_gives f x {e} {y} {a} (puts.PutRow.p8 i q l) = subst (PutGives f x e y a) (sym q) (l, refl, refl)
 
-module _ (d : drawer.Drawer Edit) (x : Loose) (e : drawer.Drawer Edit) (y : Loose) (a : Option (Ended (TakeAnswer Edit))) where
+module _ (d : hands.Drawer Edit) (x : Loose) (e : hands.Drawer Edit) (y : Loose) (a : Option (Ended (TakeAnswer Edit))) where
   -- a look at the own cell: bare, an item, or neither
   abbrev FoundAtFirst : Type 0
   FoundAtFirst =
       (w : ℕ) × Makes loose (Look Drawer (own_cell 2 d.places) w) x y
-      × (((w ≡ 0) × (e ≡ drawer_to d take.T2 d.places) × (a ≡ None))
-      ⊎ (((i : Edit) × (w ≡ edit_word i) × (e ≡ drawer_to d (take.T9 i) d.places) × (a ≡ None)) ⊎ NamesNoItem edits w))
+      × (((w ≡ 0) × (e ≡ hands.hand_to d take.T2 d.places) × (a ≡ None))
+      ⊎ (((i : Edit) × (w ≡ edit_word i) × (e ≡ hands.hand_to d (take.T9 i) d.places) × (a ≡ None)) ⊎ NamesNoItem edits w))
 
   -- a look at the mark: the own ring, or a word that does not name it
   abbrev FoundAtMark : Type 0
   FoundAtMark =
       (w : ℕ) × Makes loose (Look Drawer (mark_cell 2 2) w) x y
-      × (((e ≡ drawer_done d d.places) × (a ≡ take_over d Empty)) ⊎ ((w ≡ ring_word d.places.ring → ⊥) ⊎ NamesNoRing 2 w))
+      × (((e ≡ hands.hand_done take.Idle d.places) × (a ≡ hands.over d Empty)) ⊎ ((w ≡ ring_word d.places.ring → ⊥) ⊎ NamesNoRing 2 w))
 
   abbrev pub TakeGives : Take Edit → Type 0
   TakeGives take.Idle = ⊥
@@ -80,9 +79,9 @@ module _ (d : drawer.Drawer Edit) (x : Loose) (e : drawer.Drawer Edit) (y : Loos
   TakeGives take.T8 = Unit {0}
   TakeGives (take.T9 i) =
       Makes loose (Store Drawer (own_cell 2 d.places) 0) x y
-      × (e ≡ drawer_done d (own_on 2 d.places)) × (a ≡ take_over d (Taken i))
+      × (e ≡ hands.hand_done take.Idle (own_on 2 d.places)) × (a ≡ hands.over d (Taken i))
 
-pub take_gives : (d : drawer.Drawer Edit) (x : Loose) {e : drawer.Drawer Edit} {y : Loose} {a : Option (Ended (TakeAnswer Edit))} → TakeRow loose edits 2 2 d x e y a → TakeGives d x e y a d.stage
+pub take_gives : (d : hands.Drawer Edit) (x : Loose) {e : hands.Drawer Edit} {y : Loose} {a : Option (Ended (TakeAnswer Edit))} → TakeRow loose edits 2 2 d x e y a → TakeGives d x e y a d.stage
 take_gives d x {e} {y} {a} (takes.TakeRow.t1_bare q l) = subst (TakeGives d x e y a) (sym q) (0, l, inl (refl, refl, refl))
 take_gives d x {e} {y} {a} (takes.TakeRow.t1_item i q l) = subst (TakeGives d x e y a) (sym q) (edit_word i, l, inr (inl (i, refl, refl, refl)))
 take_gives d x {e} {y} {a} (takes.TakeRow.t1_odd w q l n) = subst (TakeGives d x e y a) (sym q) (w, l, inr (inr n))

@@ -2,8 +2,8 @@
 #![tactic(auto)]
 
 use lane::{Ended, PutAnswer, TakeAnswer};
-use memory::{Loose, Prompt, Side};
-use queue::{Move, Played, Said, play};
+use memory::{Loose, Memory, Prompt, Side};
+use queue::{Move, Said, play};
 use std::fmt;
 use words::{Edit, ItemFault, Kind, Setting};
 
@@ -52,6 +52,20 @@ fn print_calls(rt: &HostRuntime, moves: &[Move<Edit>], said: &[Said<Edit>]) -> a
     Ok(())
 }
 
+// Plays the moves on a lane of two rings, and prints the calls that ended.
+fn hand_over<M: Memory + Drop>(
+    rt: &HostRuntime,
+    memory: M,
+    cells: u8,
+    moves: &[Move<Edit>],
+    said: &mut [Said<Edit>],
+) -> anyhow::Result<()> {
+    match play(memory, 2, cells, 0, moves, said) {
+        Ok(_) => print_calls(rt, moves, said),
+        Err(refused) => Err(refused.why.into()),
+    }
+}
+
 // Two rings of one cell: the second put goes on to the next ring, and the third finds none free.
 fn fill_and_empty(rt: &HostRuntime) -> anyhow::Result<()> {
     let heat = Move::Feed(Edit::new(Setting::TopHeat, 1, 1, 250)?);
@@ -62,11 +76,8 @@ fn fill_and_empty(rt: &HostRuntime) -> anyhow::Result<()> {
         heat, heat, heat, steam, steam, steam, steam, steam, steam, steam, steam, damper, damper,
         draw, draw, draw, draw, draw, draw, draw, draw, draw, draw, draw, damper, damper, damper,
     ];
-    let mut words = [0; 7];
     let mut said = [Said::Nothing; 27];
-    let Played { memory: _, opened } = play(Prompt::new(&mut words), 2, 1, 0, &moves, &mut said);
-    opened?;
-    print_calls(rt, &moves, &said)
+    hand_over(rt, Prompt::new(&mut [0; 7]), 1, &moves, &mut said)
 }
 
 // A take before the item's store has landed, and one after.
@@ -83,11 +94,8 @@ fn wait_and_land(rt: &HostRuntime) -> anyhow::Result<()> {
         draw,
         draw,
     ];
-    let mut words = [0; 9];
     let mut said = [Said::Nothing; 8];
-    let Played { memory: _, opened } = play(Loose::new(&mut words), 2, 2, 0, &moves, &mut said);
-    opened?;
-    print_calls(rt, &moves, &said)
+    hand_over(rt, Loose::new(&mut [0; 9]), 2, &moves, &mut said)
 }
 
 fn run(rt: &HostRuntime) -> anyhow::Result<()> {

@@ -5,6 +5,8 @@ ghost use Rattle.items.specs.Items.{item_word, kind_of, NoItemOf};
 
 use words::{Edit, ItemFault, Kind, Reading, RingNumber};
 
+// The kind is known only once a line is read, so these are enums and no type parameter.
+
 /// A kind of item, as it is named in text.
 #[derive(Clone, Copy)]
 pub enum KindName {
@@ -37,9 +39,9 @@ impl Item {
         ensures { MatchResult result (λ i. (kind_of i ≡ kind) × (item_word i ≡ word)) (λ f. (f ≡ NoItem word) × NoItemOf kind word) }
     {
         match kind {
-            KindName::Edit => Ok(Item::Edit(Edit::read(word)?)),
-            KindName::Reading => Ok(Item::Reading(Reading::read(word)?)),
-            KindName::Ring => Ok(Item::Ring(RingNumber::read(word)?)),
+            KindName::Edit => Edit::read(word).map(Item::Edit),
+            KindName::Reading => Reading::read(word).map(Item::Reading),
+            KindName::Ring => RingNumber::read(word).map(Item::Ring),
         }
     }
 }

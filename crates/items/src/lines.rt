@@ -1,38 +1,36 @@
 //! A line of input, and its answer.
 use crate::kinds::{Item, KindName};
-use crate::tokens::{read_tenths, read_word};
-use std::str::SplitWhitespace;
+use crate::tokens::{Temperature, Word};
+use std::str::{FromStr, SplitWhitespace};
+use thiserror::Error;
 use words::{Edit, ItemFault, Part, Reading, RingNumber, Setting};
 
 /// What a line that cannot be read should have had.
-#[derive(Clone, Copy)]
+#[derive(Clone, Copy, Debug, Error)]
 pub enum Expected {
+    #[error("edit, reading, ring or word")]
     Request,
+    #[error("a setting: top-heat, bottom-heat, steam, damper or stage-time")]
     Setting,
+    #[error("a whole number: {0}")]
     Number(Part),
+    #[error("degrees such as 21.5, or open")]
     Temperature,
+    #[error("a kind: edit, reading or ring")]
     Kind,
+    #[error("a word of 16 hexadecimal digits")]
     Word,
+    #[error("the end of the line")]
     End,
 }
 
 /// Why a line has no answer.
-#[derive(Clone, Copy)]
+#[derive(Clone, Copy, Debug, Error)]
 pub enum LineFault {
-    Malformed(Expected),
-    Refused(ItemFault),
-}
-
-impl From<Expected> for LineFault {
-    fn from(e: Expected) -> LineFault {
-        LineFault::Malformed(e)
-    }
-}
-
-impl From<ItemFault> for LineFault {
-    fn from(e: ItemFault) -> LineFault {
-        LineFault::Refused(e)
-    }
+    #[error("malformed: expected {0}")]
+    Malformed(#[from] Expected),
+    #[error("refusal {}: {}", .0.number(), .0)]
+    Refused(#[from] ItemFault),
 }
 
 /// What a line is answered with.
@@ -42,48 +40,15 @@ pub enum Answer {
     Item(Item),
 }
 
-fn number(tokens: &mut SplitWhitespace<'_>, part: Part) -> Result<i64, Expected> {
-    match tokens.next() {
-        Some(text) => match text.parse::<i64>() {
-            Ok(n) => Ok(n),
-            Err(_) => Err(Expected::Number(part)),
-        },
-        None => Err(Expected::Number(part)),
-    }
-}
-
-fn setting(tokens: &mut SplitWhitespace<'_>) -> Result<Setting, Expected> {
-    match tokens.next() {
-        Some(text) => Setting::from_name(text).ok_or(Expected::Setting),
-        None => Err(Expected::Setting),
-    }
-}
-
-fn temperature(tokens: &mut SplitWhitespace<'_>) -> Result<Option<i64>, Expected> {
-    match tokens.next() {
-        Some("open") => Ok(None),
-        Some(text) => match read_tenths(text) {
-            Some(tenths) => Ok(Some(tenths)),
-            None => Err(Expected::Temperature),
-        },
-        None => Err(Expected::Temperature),
-    }
-}
-
-fn kind(tokens: &mut SplitWhitespace<'_>) -> Result<KindName, Expected> {
-    match tokens.next() {
-        Some("edit") => Ok(KindName::Edit),
-        Some("reading") => Ok(KindName::Reading),
-        Some("ring") => Ok(KindName::Ring),
-        _ => Err(Expected::Kind),
-    }
-}
-
-fn word(tokens: &mut SplitWhitespace<'_>) -> Result<u64, Expected> {
-    match tokens.next() {
-        Some(text) => read_word(text).ok_or(Expected::Word),
-        None => Err(Expected::Word),
-    }
+/// The next token, as a `T`.
+fn next<T: FromStr>(tokens: &mut SplitWhitespace<'_>, expected: Expected) -> Result<T, Expected>
+where
+    T::Err: Drop,
+{
+    tokens
+        .next()
+        .and_then(|text| text.parse().ok())
+        .ok_or(expected)
 }
 
 fn end(tokens: &mut SplitWhitespace<'_>) -> Result<(), Expected> {
@@ -93,54 +58,56 @@ fn end(tokens: &mut SplitWhitespace<'_>) -> Result<(), Expected> {
     }
 }
 
-fn edit(tokens: &mut SplitWhitespace<'_>) -> Result<Answer, LineFault> {
-    let setting = setting(tokens)?;
-    let deck = number(tokens, Part::Deck)?;
-    let stage = number(tokens, Part::Stage)?;
-    let value = number(tokens, Part::Value(setting))?;
+fn edit(tokens: &mut SplitWhitespace<'_>) -> Result<Edit, LineFault> {
+    let setting = next(tokens, Expected::Setting)?;
+    let deck = next(tokens, Expected::Number(Part::Deck))?;
+    let stage = next(tokens, Expected::Number(Part::Stage))?;
+    let value = next(tokens, Expected::Number(Part::Value(setting)))?;
     end(tokens)?;
-    let edit = Edit::new(setting, deck, stage, value)?;
-    Ok(Answer::Word(Item::Edit(edit).to_word()))
+    Ok(Edit::new(setting, deck, stage, value)?)
 }
 
-fn reading(tokens: &mut SplitWhitespace<'_>) -> Result<Answer, LineFault> {
-    let deck = number(tokens, Part::Deck)?;
-    let probe = number(tokens, Part::Probe)?;
-    let tick = number(tokens, Part::Tick)?;
-    let tenths = temperature(tokens)?;
+fn reading(tokens: &mut SplitWhitespace<'_>) -> Result<Reading, LineFault> {
+    let deck = next(tokens, Expected::Number(Part::Deck))?;
+    let probe = next(tokens, Expected::Number(Part::Probe))?;
+    let tick = next(tokens, Expected::Number(Part::Tick))?;
+    let Temperature(tenths) = next(tokens, Expected::Temperature)?;
     end(tokens)?;
-    let reading = Reading::new(deck, probe, tick, tenths)?;
-    Ok(Answer::Word(Item::Reading(reading).to_word()))
+    Ok(Reading::new(deck, probe, tick, tenths)?)
 }
 
-fn ring(tokens: &mut SplitWhitespace<'_>) -> Result<Answer, LineFault> {
-    let number = number(tokens, Part::Ring)?;
+fn ring(tokens: &mut SplitWhitespace<'_>) -> Result<RingNumber, LineFault> {
+    let number = next(tokens, Expected::Number(Part::Ring))?;
     end(tokens)?;
-    let ring = RingNumber::new(number)?;
-    Ok(Answer::Word(Item::Ring(ring).to_word()))
+    Ok(RingNumber::new(number)?)
 }
 
-fn item(tokens: &mut SplitWhitespace<'_>) -> Result<Answer, LineFault> {
-    let kind = kind(tokens)?;
-    let word = word(tokens)?;
+fn item(kind: KindName, tokens: &mut SplitWhitespace<'_>) -> Result<Item, LineFault> {
+    match kind {
+        KindName::Edit => edit(tokens).map(Item::Edit),
+        KindName::Reading => reading(tokens).map(Item::Reading),
+        KindName::Ring => ring(tokens).map(Item::Ring),
+    }
+}
+
+fn item_of_word(tokens: &mut SplitWhitespace<'_>) -> Result<Item, LineFault> {
+    let kind = next(tokens, Expected::Kind)?;
+    let Word(word) = next(tokens, Expected::Word)?;
     end(tokens)?;
-    Ok(Answer::Item(Item::read(kind, word)?))
+    Ok(Item::read(kind, word)?)
 }
 
 /// The answer to a line, up to a `#`; none where it is blank.
 pub(crate) fn answer_line(line: &str) -> Result<Option<Answer>, LineFault> {
-    let asked = match line.split_once("#") {
-        Some((asked, _)) => asked,
-        None => line,
-    };
+    let asked = line.split_once("#").map_or(line, |(asked, _)| asked);
     let mut tokens = asked.split_whitespace();
     let answer = match tokens.next() {
         None => return Ok(None),
-        Some("edit") => edit(&mut tokens)?,
-        Some("reading") => reading(&mut tokens)?,
-        Some("ring") => ring(&mut tokens)?,
-        Some("word") => item(&mut tokens)?,
-        Some(_) => return Err(LineFault::Malformed(Expected::Request)),
+        Some("word") => Answer::Item(item_of_word(&mut tokens)?),
+        Some(name) => {
+            let kind = name.parse().map_err(|_| Expected::Request)?;
+            Answer::Word(item(kind, &mut tokens)?.to_word())
+        }
     };
     Ok(Some(answer))
 }

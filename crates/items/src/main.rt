@@ -21,13 +21,8 @@ fn print_answer(rt: &HostRuntime, line: &str) -> anyhow::Result<()> {
 
 fn run(rt: &HostRuntime) -> anyhow::Result<()> {
     let heap = rt.alloc();
-    let mut input = BufReader::new(heap, rt.stdin())?;
-    for _ in 0..u64::MAX {
-        let mut bytes = Vec::new(heap);
-        if input.read_until(b'\n', &mut bytes)? == 0 {
-            break;
-        }
-        let text = String::from_utf8_lossy(heap, bytes.as_slice())?;
+    for line in BufReader::new(heap, rt.stdin())?.split(heap, b'\n') {
+        let text = String::from_utf8_lossy(heap, line?.as_slice())?;
         print_answer(rt, text.trim_end())?;
     }
     Ok(())

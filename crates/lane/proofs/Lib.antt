@@ -1,4 +1,4 @@
 mod Rows
-pub mod Busy
+pub mod Underway
 pub mod Sizes
 pub mod Owned

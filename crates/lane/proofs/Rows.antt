@@ -3,8 +3,7 @@ use Rattle.std.proofs.Common.{◌≡◌, ℕ, Option, sym, refl, subst₂}
 use Rattle.memory.specs.declared.Memory as memory
 use Rattle.memory.specs.declared.Side.TheVariants as side
 use Rattle.words.specs.declared.kinds.Kind as kind
-use Rattle.lane.specs.declared.sides.Feeder.{Feeder}
-use Rattle.lane.specs.declared.sides.Drawer.{Drawer}
+use Rattle.lane.specs.Hands.{Feeder, Drawer}
 use Rattle.lane.specs.declared.answers.Ended.{Ended}
 use Rattle.lane.specs.declared.answers.PutAnswer.{PutAnswer}
 use Rattle.lane.specs.Layout.{own_cell}

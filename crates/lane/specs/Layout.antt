@@ -1,6 +1,8 @@
 -- The shape of a lane, its addresses, and a side's positions.
 use Rattle.std.specs.Prelude.{◌≡◌, ℕ, ◌+◌, ◌*◌, ◌<◌, ◌≤◌, cond, length, Some, None, Option, ◌==◌, ◌≢◌, slice_index, slice_set}
 use Rattle.lane.specs.declared.sides.Places.{Places}
+use Rattle.lane.specs.declared.sides.Spot.{Spot}
+use Rattle.lane.specs.declared.sides.Spot.TheVariants.{Own, Next, Free, Mark}
 
 -- R rings of N cells
 abbrev pub Shaped : ℕ → ℕ → Type 0
@@ -54,6 +56,19 @@ free_on R p = record { ring = p.ring; at = p.at; next = p.next; free = advanced 
 
 abbrev pub ring_is : ℕ → Places → Places
 ring_is n p = record { ring = n; at = p.at; next = p.next; free = p.free }
+
+-- the address of a cell that a side comes to, and its positions once it has stored there
+abbrev pub spot_cell : ℕ → ℕ → Places → Spot → ℕ
+spot_cell R N p Own = own_cell N p
+spot_cell R N p Next = next_cell R N p
+spot_cell R N p Free = free_cell R N p
+spot_cell R N p Mark = mark_cell R N
+
+abbrev pub moved_on : ℕ → ℕ → Places → Spot → Places
+moved_on R N p Own = own_on N p
+moved_on R N p Next = next_on R p
+moved_on R N p Free = free_on R p
+moved_on R N p Mark = p
 
 -- the positions of a side lie within its rings and lists
 abbrev pub Within : ℕ → ℕ → Places → Type 0

@@ -1,5 +1,6 @@
 pub mod Refusals
 pub mod Layout
+pub mod Hands
 pub mod Stages
 pub mod Calls
 pub mod Moves

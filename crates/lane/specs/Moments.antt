@@ -4,16 +4,12 @@ use Rattle.memory.specs.declared.Memory as memory
 use Rattle.memory.specs.declared.Side.{Side}
 use Rattle.memory.specs.Meaning.{Land, Drain}
 use Rattle.words.specs.declared.kinds.Kind as kind
-use Rattle.lane.specs.declared.sides.Feeder.{Feeder}
-use Rattle.lane.specs.declared.sides.Drawer.{Drawer}
+use Rattle.lane.specs.Hands.{Feeder, Drawer}
 use Rattle.lane.specs.declared.answers.Ended.{Ended}
 use Rattle.lane.specs.declared.answers.PutAnswer.{PutAnswer}
 use Rattle.lane.specs.declared.answers.TakeAnswer.{TakeAnswer}
-use Rattle.lane.specs.declared.refusals.Refusal.{Refusal}
-use Rattle.lane.specs.declared.refusals.Refusal.TheVariants.{WrongEnd, Outside}
 use Rattle.lane.specs.declared.lanes.Lane.{Lane}
-use Rattle.lane.specs.Layout.{words_of}
-use Rattle.lane.specs.Calls.{Makes, TooFew}
+use Rattle.lane.specs.Calls.{Makes}
 use Rattle.lane.specs.PutTable.{PutRow}
 use Rattle.lane.specs.TakeTable.{TakeRow}
 
@@ -27,7 +23,7 @@ pub record Moment (K X : Type 0) : Type 0 where
 
 module _ {K X : Type 0} where
   abbrev pub moment : {κ : kind.Ghosts K} {G : memory.Ghosts X} → Lane K X κ G → Moment K X
-  moment l = record { number = l.number; rings = l.rings; cells = l.cells; memory = l.memory; feeder = l.feeder; drawer = l.drawer }
+  moment l = record { number = l.number; rings = l.shape.rings; cells = l.shape.cells; memory = l.memory; feeder = l.feeder; drawer = l.drawer }
 
   -- m with another memory and another feeder, another drawer, or both sides as they were
   abbrev pub fed : Moment K X → X → Feeder K → Moment K X
@@ -58,13 +54,3 @@ module _ {K X : Type 0} (G : memory.Ghosts X) where
   pub record Draining (m n : Moment K X) : Type 0 where
     pub call : Makes G Drain m.memory n.memory
     pub after : n ≡ remembering m n.memory
-
-  -- the memory has too few words for the lane, and means what it meant
-  pub record Cramped (m n : Moment K X) : Type 0 where
-    pub memory_small : TooFew G (words_of m.rings m.cells) m.memory n.memory
-    pub after : n ≡ remembering m n.memory
-
-  -- why a step is refused, and what is left: the end does not fit and the lane is unchanged, or the memory is too small
-  abbrev pub Refused : Type 0 → Moment K X → Moment K X → Refusal → Type 0
-  Refused Fits m n WrongEnd = (Fits → ⊥) × (n ≡ m)
-  Refused Fits m n (Outside a) = Cramped m n

@@ -3,16 +3,14 @@ use Rattle.std.specs.Prelude.{◌≡◌, ℕ}
 use Rattle.memory.specs.declared.Memory as memory
 use Rattle.memory.specs.declared.Side.{Side}
 use Rattle.memory.specs.Meaning.{Store}
-use Rattle.lane.specs.declared.sides.Places.{Places}
-use Rattle.lane.specs.Layout.{Within, mark_cell}
+use Rattle.lane.specs.declared.sides.Spot.{Spot}
+use Rattle.lane.specs.declared.sides.Hand.{Hand}
+use Rattle.lane.specs.Layout.{Within, spot_cell, moved_on}
 use Rattle.lane.specs.Calls.{Makes}
 
 module _ {X : Type 0} (G : memory.Ghosts X) (R N : ℕ) where
-  -- the word is stored at the address, and the positions are those that are due
-  pub record StoredOn (s : Side) (a w : ℕ) (x y : X) (due p : Places) : Type 0 where
-    pub call : Makes G (Store s a w) x y
-    pub moved : p ≡ due
-    pub within : Within R N p
-
-  abbrev pub MarkStored : Side → ℕ → X → X → Type 0
-  MarkStored s w x y = Makes G (Store s (mark_cell R N) w) x y
+  -- the word is stored where the side h stands, and only its position there moves on
+  pub record StoredOn {S : Type 0} (s : Side) (spot : Spot) (w : ℕ) (h h' : Hand S) (x y : X) : Type 0 where
+    pub call : Makes G (Store s (spot_cell R N h.places spot) w) x y
+    pub moved : h' ≡ record { stage = h.stage; steps = h.steps; places = moved_on R N h.places spot }
+    pub within : Within R N h'.places

@@ -1,15 +1,15 @@
 -- Opening a lane.
-use Rattle.std.specs.Prelude.{◌≡◌, ℕ, ◌+◌, ◌-◌, ◌*◌, ◌<◌, ◌≤◌, cond, replicate, ◌==◌, nat_lt}
+use Rattle.std.specs.Prelude.{◌≡◌, ℕ, ◌+◌, ◌-◌, ◌*◌, ◌<◌, ◌≤◌, cond, ◌==◌, nat_lt}
 use Rattle.memory.specs.declared.Memory as memory
 use Rattle.words.specs.declared.kinds.Kind as kind
 use Rattle.memory.specs.declared.Side.TheVariants as side
 use Rattle.memory.specs.Meaning.{Size, Store, Drain}
-use Rattle.lane.specs.declared.sides.Places.{Places}
 use Rattle.lane.specs.declared.sides.Put.TheVariants as put
 use Rattle.lane.specs.declared.sides.Take.TheVariants as take
 use Rattle.lane.specs.declared.refusals.OpenRefusal.{OpenRefusal}
 use Rattle.lane.specs.declared.refusals.OpenRefusal.TheVariants.{OutOfRange, TooSmall}
 use Rattle.lane.specs.declared.openings.Opened.{Opened}
+use Rattle.lane.specs.Hands.{first_hand}
 use Rattle.lane.specs.Layout.{Shaped, words_of, ring_word}
 use Rattle.lane.specs.Calls.{Makes}
 use Rattle.lane.specs.Moments.{Moment, moment}
@@ -18,9 +18,6 @@ use Rattle.lane.specs.Moments.{Moment, moment}
 abbrev pub first_word : ℕ → ℕ → ℕ → ℕ
 first_word R N a = cond (nat_lt a (R * N + R)) 0 (cond (nat_lt a (R * N + (2 * R - 1))) (ring_word (a - (R * N + R) + 1)) (cond (a == R * N + 2 * R) (ring_word 0) 0))
 
-abbrev pub first_places : ℕ → Places
-first_places free = record { ring = 0; at = replicate 8 0; next = 0; free = free }
-
 -- a lane just opened
 abbrev pub opened : {K X : Type 0} → ℕ → ℕ → ℕ → X → Moment K X
 opened number R N x = record {
@@ -28,8 +25,8 @@ opened number R N x = record {
   rings = R;
   cells = N;
   memory = x;
-  feeder = record { stage = put.Idle; steps = 0; places = first_places 0 };
-  drawer = record { stage = take.Idle; steps = 0; places = first_places (R - 1) };
+  feeder = first_hand put.Idle 0;
+  drawer = first_hand take.Idle (R - 1);
 }
 
 module _ {X : Type 0} (G : memory.Ghosts X) (R N : ℕ) where

@@ -3,7 +3,7 @@ use Rattle.std.specs.Prelude.{ℕ, Some, None, Option}
 use Rattle.lane.specs.declared.refusals.OpenRefusal.{OpenRefusal}
 use Rattle.lane.specs.declared.refusals.OpenRefusal.TheVariants.{OutOfRange, TooSmall}
 use Rattle.lane.specs.declared.refusals.Refusal.{Refusal}
-use Rattle.lane.specs.declared.refusals.Refusal.TheVariants.{WrongEnd, Outside}
+use Rattle.lane.specs.declared.refusals.Refusal.TheVariants.{WrongEnd}
 use Rattle.lane.specs.declared.answers.PutAnswer.{PutAnswer}
 use Rattle.lane.specs.declared.answers.PutAnswer.TheVariants as put
 use Rattle.lane.specs.declared.answers.TakeAnswer.{TakeAnswer}
@@ -15,7 +15,6 @@ open_number TooSmall = 4
 
 abbrev pub step_number : Refusal → ℕ
 step_number WrongEnd = 5
-step_number (Outside a) = 6
 
 module _ {K : Type 0} where
   -- none for an item accepted, or taken

@@ -4,12 +4,12 @@ ghost use Rattle.lane.specs.Moments.{moment, Landing, Draining};
 ghost use Rattle.lane.specs.Ends.{PutBegun, PutUnbegun, PutMade, PutUnmade, TakeBegun, TakeUnbegun, TakeMade, TakeUnmade};
 
 use crate::ends::{
-    DrawerBusy, DrawerIdle, FeederBusy, FeederIdle, NoPut, NoPutStep, NoTake, NoTakeStep,
+    DrawerBusy, DrawerIdle, FeederBusy, FeederIdle, NoPut, NoPutStep, NoStep, NoTake, NoTakeStep,
     PutStepped, TakeStepped,
 };
 use crate::lanes::Lane;
-use crate::refusals::Refusal;
 use crate::sides::{Put, Take};
+use crate::stands::Stage;
 use memory::{Memory, Side};
 use words::Kind;
 
@@ -20,39 +20,19 @@ impl<K: Kind, M: Memory> Lane<K, M> {
             (λ b. PutBegun (moment self.old) (moment self.new) end item b)
             (λ e. PutUnbegun (moment self.old) (moment self.new) end item e) }
     {
-        match self.feeder.stage {
-            Put::Idle if end.lane == self.number => {
-                let FeederIdle { lane } = end;
-                self.feeder.stage = Put::P1(item);
-                self.feeder.steps = 0;
-                Ok(FeederBusy { lane })
-            }
-            _ => Err(NoPut { end, item }),
-        }
+        self.feeder.begin(Put::P1(item), self.number, end, item)
     }
 
     /// Makes one step of the put under way: one memory call.
     pub fn put_step(&mut self, end: FeederBusy) -> Result<PutStepped<K>, NoPutStep>
         ensures { MatchResult result
             (λ s. PutMade M.Memory K.Kind (moment self.old) (moment self.new) end s)
-            (λ e. PutUnmade M.Memory K.Kind (moment self.old) (moment self.new) end e) }
+            (λ e. PutUnmade (moment self.old) (moment self.new) end e) }
     {
-        if end.lane != self.number {
-            return Err(NoPutStep {
-                end,
-                why: Refusal::WrongEnd,
-            });
+        if end.lane != self.number || self.feeder.stage.is_idle() {
+            return Err(NoStep { end });
         }
-        match self.put_row() {
-            Ok(answer) => match answer {
-                None => Ok(PutStepped::Going(end)),
-                Some(ended) => {
-                    let FeederBusy { lane } = end;
-                    Ok(PutStepped::Over(FeederIdle { lane }, ended))
-                }
-            },
-            Err(why) => Err(NoPutStep { end, why }),
-        }
+        Ok(end.after(self.put_row()))
     }
 
     /// Begins a take, which makes no memory call.
@@ -61,39 +41,19 @@ impl<K: Kind, M: Memory> Lane<K, M> {
             (λ b. TakeBegun (moment self.old) (moment self.new) end b)
             (λ e. TakeUnbegun (moment self.old) (moment self.new) end e) }
     {
-        match self.drawer.stage {
-            Take::Idle if end.lane == self.number => {
-                let DrawerIdle { lane } = end;
-                self.drawer.stage = Take::T1;
-                self.drawer.steps = 0;
-                Ok(DrawerBusy { lane })
-            }
-            _ => Err(NoTake { end }),
-        }
+        self.drawer.begin(Take::T1, self.number, end, ())
     }
 
     /// Makes one step of the take under way: one memory call.
     pub fn take_step(&mut self, end: DrawerBusy) -> Result<TakeStepped<K>, NoTakeStep>
         ensures { MatchResult result
             (λ s. TakeMade M.Memory K.Kind (moment self.old) (moment self.new) end s)
-            (λ e. TakeUnmade M.Memory K.Kind (moment self.old) (moment self.new) end e) }
+            (λ e. TakeUnmade (moment self.old) (moment self.new) end e) }
     {
-        if end.lane != self.number {
-            return Err(NoTakeStep {
-                end,
-                why: Refusal::WrongEnd,
-            });
+        if end.lane != self.number || self.drawer.stage.is_idle() {
+            return Err(NoStep { end });
         }
-        match self.take_row() {
-            Ok(answer) => match answer {
-                None => Ok(TakeStepped::Going(end)),
-                Some(ended) => {
-                    let DrawerBusy { lane } = end;
-                    Ok(TakeStepped::Over(DrawerIdle { lane }, ended))
-                }
-            },
-            Err(why) => Err(NoTakeStep { end, why }),
-        }
+        Ok(end.after(self.take_row()))
     }
 
     /// Lands a waiting store of this side.
@@ -117,8 +77,7 @@ impl<K: Kind, M: Memory> Lane<K, M> {
         let Lane {
             memory,
             number: _,
-            rings: _,
-            cells: _,
+            shape: _,
             feeder: _,
             drawer: _,
         } = self;

@@ -6,20 +6,21 @@ mod calls;
 mod ends;
 mod lanes;
 mod laws;
+mod memory_calls;
 mod openings;
 mod places;
 mod puts;
 mod refusals;
 mod rings;
+mod shapes;
 mod sides;
 mod stands;
-mod stores;
 mod takes;
 
 pub use answers::{Ended, PutAnswer, TakeAnswer};
 pub use ends::{
-    DrawerBusy, DrawerEnd, DrawerIdle, FeederBusy, FeederEnd, FeederIdle, NoPut, NoPutStep, NoTake,
-    NoTakeStep, PutStepped, TakeStepped,
+    Busy, DrawerBusy, DrawerEnd, DrawerIdle, Draws, End, FeederBusy, FeederEnd, FeederIdle, Feeds,
+    Idle, NoPut, NoPutStep, NoStep, NoTake, NoTakeStep, PutStepped, Stepped, TakeStepped, Unbegun,
 };
 pub use lanes::Lane;
 pub use laws::own_ends_fit;

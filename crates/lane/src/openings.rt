@@ -3,10 +3,11 @@ ghost use Rattle.std.specs.Prelude.{◌≡◌, ℕ, ◌+◌, ◌-◌, ◌*◌, �
 ghost use Rattle.lane.specs.Layout.{Shaped, words_of};
 ghost use Rattle.lane.specs.Openings.{first_word, Filled, Openable, Unopened, OpenedOver};
 
-use crate::ends::{DrawerIdle, FeederIdle};
+use crate::ends::{DrawerIdle, FeederIdle, Idle};
 use crate::lanes::Lane;
 use crate::refusals::OpenRefusal;
-use crate::sides::{Drawer, Feeder, Places, Put, Take};
+use crate::shapes::Shape;
+use crate::sides::Hand;
 use memory::{Memory, Side};
 use words::Kind;
 
@@ -18,26 +19,40 @@ pub struct Opened<K: Kind, M: Memory> {
 }
 
 /// A lane that was not opened: the memory comes back as given, and why.
+#[derive(Drop)]
 pub struct NoLane<M> {
     pub memory: M,
     pub why: OpenRefusal,
 }
 
-fn first_word(rings: u8, cells: u8, a: usize) -> u64
-    requires { Shaped rings cells × (a < words_of rings cells) }
-    ensures { result ≡ first_word rings cells a }
+// the word that an address has at first
+fn first_word(shape: Shape, a: usize) -> u64
+    requires { a < words_of shape.rings shape.cells }
+    ensures { result ≡ first_word shape.rings shape.cells a }
 {
-    let lists = rings as usize * cells as usize;
-    let free = lists + rings as usize;
+    let free = shape.free_list();
     if a < free {
         0
-    } else if a < lists + (2 * rings as usize - 1) {
+    } else if a < shape.mark() - 1 {
         (a - free + 2) as u64
-    } else if a == lists + 2 * rings as usize {
+    } else if a == shape.mark() {
         1
     } else {
         0
     }
+}
+
+// The shape of a lane that can be opened in the memory: the ranges of its numbers first, then the memory's size.
+fn openable<M: Memory>(memory: &mut M, rings: u8, cells: u8) -> Result<Shape, OpenRefusal>
+    ensures { MatchResult result
+        (λ s. (s.rings ≡ rings) × (s.cells ≡ cells) × Openable M.Memory rings cells memory.old memory.new)
+        (λ why. Unopened M.Memory rings cells why memory.old memory.new) }
+{
+    let shape = Shape::new(rings, cells)?;
+    if memory.size() < shape.words() {
+        return Err(OpenRefusal::TooSmall);
+    }
+    Ok(shape)
 }
 
 /// Whether a lane of this many rings and cells can be opened in the memory: their ranges first, then the memory's size.
@@ -46,24 +61,17 @@ pub fn check_opening<M: Memory>(memory: &mut M, rings: u8, cells: u8) -> Result<
         (λ _. Openable M.Memory rings cells memory.old memory.new)
         (λ why. Unopened M.Memory rings cells why memory.old memory.new) }
 {
-    if rings < 2 || rings > 8 || cells < 1 || cells > 64 {
-        return Err(OpenRefusal::OutOfRange);
-    }
-    if memory.size() < rings as usize * cells as usize + (2 * rings as usize + 1) {
-        return Err(OpenRefusal::TooSmall);
-    }
+    openable(memory, rings, cells)?;
     Ok(())
 }
 
 // Stores every word of the lane, upwards.
-fn fill<M: Memory>(memory: &mut M, rings: u8, cells: u8)
-    requires { Shaped rings cells × (words_of rings cells ≤ length (M.Memory.meaning memory.old).landed) }
-    ensures { Filled M.Memory rings cells memory.old (words_of rings cells) memory.new }
+fn fill<M: Memory>(memory: &mut M, shape: Shape)
+    requires { words_of shape.rings shape.cells ≤ length (M.Memory.meaning memory.old).landed }
+    ensures { Filled M.Memory shape.rings shape.cells memory.old (words_of shape.rings shape.cells) memory.new }
 {
-    let end = rings as usize * cells as usize + (2 * rings as usize + 1);
-    for a in 0..end {
-        let w = first_word(rings, cells, a);
-        if let Err(_) = memory.store(Side::Feeder, a, w) {
+    for a in 0..shape.words() {
+        if let Err(_) = memory.store(Side::Feeder, a, first_word(shape, a)) {
             return;
         }
     }
@@ -77,43 +85,23 @@ impl<K: Kind, M: Memory> Lane<K, M> {
             (λ e. Unopened M.Memory rings cells e.why memory e.memory) }
     {
         let mut memory = memory;
-        if let Err(why) = check_opening(&mut memory, rings, cells) {
-            return Err(NoLane { memory, why });
-        }
-        memory.drain();
-        fill(&mut memory, rings, cells);
-        memory.drain();
-        let feeder = Feeder {
-            stage: Put::Idle,
-            steps: 0,
-            places: Places {
-                ring: 0,
-                at: [0; 8],
-                next: 0,
-                free: 0,
-            },
+        let shape = match openable(&mut memory, rings, cells) {
+            Ok(shape) => shape,
+            Err(why) => return Err(NoLane { memory, why }),
         };
-        let drawer = Drawer {
-            stage: Take::Idle,
-            steps: 0,
-            places: Places {
-                ring: 0,
-                at: [0; 8],
-                next: 0,
-                free: rings - 1,
-            },
-        };
+        memory.drain();
+        fill(&mut memory, shape);
+        memory.drain();
         Ok(Opened {
             lane: Lane {
                 memory,
                 number,
-                rings,
-                cells,
-                feeder,
-                drawer,
+                shape,
+                feeder: Hand::new(0),
+                drawer: Hand::new(shape.rings - 1),
             },
-            feeder: FeederIdle { lane: number },
-            drawer: DrawerIdle { lane: number },
+            feeder: Idle::new(number),
+            drawer: Idle::new(number),
         })
     }
 }

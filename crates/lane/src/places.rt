@@ -1,16 +1,9 @@
 //! Addresses, and how a side moves on.
 ghost use Rattle.std.specs.Prelude.{◌≡◌, ℕ, ◌+◌, ◌*◌, ◌<◌, ◌≤◌};
-ghost use Rattle.lane.specs.Layout.{Shaped, Within, words_of, own_cell, next_cell, free_cell, mark_cell, advanced, own_on, next_on, free_on};
+ghost use Rattle.lane.specs.Layout.{Within, words_of, advanced, spot_cell, moved_on};
 
-use crate::sides::Places;
-
-pub(crate) fn mark_cell(rings: u8, cells: u8) -> usize
-    requires { Shaped rings cells }
-    ensures is { result ≡ mark_cell rings cells }
-    ensures inside { result < words_of rings cells }
-{
-    rings as usize * cells as usize + 2 * rings as usize
-}
+use crate::shapes::Shape;
+use crate::sides::{Places, Spot};
 
 fn advance(i: u8, n: u8) -> u8
     requires { i < n }
@@ -20,50 +13,37 @@ fn advance(i: u8, n: u8) -> u8
 }
 
 impl Places {
-    pub(crate) fn own_cell(&self, rings: u8, cells: u8) -> usize
-        requires { Shaped rings cells × Within rings cells self.now }
-        ensures is { result ≡ own_cell cells self.now }
-        ensures inside { result < words_of rings cells }
+    /// The address of the cell.
+    pub(crate) fn cell(&self, shape: Shape, spot: Spot) -> usize
+        requires { Within shape.rings shape.cells self.now }
+        ensures is { result ≡ spot_cell shape.rings shape.cells self.now spot }
+        ensures inside { result < words_of shape.rings shape.cells }
     {
-        self.ring as usize * cells as usize + self.at[self.ring as usize] as usize
+        match spot {
+            Spot::Own => {
+                self.ring as usize * shape.cells as usize + self.at[self.ring as usize] as usize
+            }
+            Spot::Next => shape.next_list() + self.next as usize,
+            Spot::Free => shape.free_list() + self.free as usize,
+            Spot::Mark => shape.mark(),
+        }
     }
 
-    pub(crate) fn next_cell(&self, rings: u8, cells: u8) -> usize
-        requires { Shaped rings cells × Within rings cells self.now }
-        ensures is { result ≡ next_cell rings cells self.now }
-        ensures inside { result < words_of rings cells }
+    /// The positions once the side has stored in the cell; the mark has none.
+    pub(crate) fn moved_on(self, shape: Shape, spot: Spot) -> Places
+        requires { Within shape.rings shape.cells self }
+        ensures { (result ≡ moved_on shape.rings shape.cells self spot) × Within shape.rings shape.cells result }
     {
-        rings as usize * cells as usize + self.next as usize
-    }
-
-    pub(crate) fn free_cell(&self, rings: u8, cells: u8) -> usize
-        requires { Shaped rings cells × Within rings cells self.now }
-        ensures is { result ≡ free_cell rings cells self.now }
-        ensures inside { result < words_of rings cells }
-    {
-        rings as usize * cells as usize + rings as usize + self.free as usize
-    }
-
-    pub(crate) fn own_on(&mut self, rings: u8, cells: u8)
-        requires { Shaped rings cells × Within rings cells self.old }
-        ensures { (self.new ≡ own_on cells self.old) × Within rings cells self.new }
-    {
-        let r = self.ring as usize;
-        let i = self.at[r];
-        self.at[r] = advance(i, cells);
-    }
-
-    pub(crate) fn next_on(&mut self, rings: u8, cells: u8)
-        requires { Shaped rings cells × Within rings cells self.old }
-        ensures { (self.new ≡ next_on rings self.old) × Within rings cells self.new }
-    {
-        self.next = advance(self.next, rings);
-    }
-
-    pub(crate) fn free_on(&mut self, rings: u8, cells: u8)
-        requires { Shaped rings cells × Within rings cells self.old }
-        ensures { (self.new ≡ free_on rings self.old) × Within rings cells self.new }
-    {
-        self.free = advance(self.free, rings);
+        let mut places = self;
+        match spot {
+            Spot::Own => {
+                let ring = self.ring as usize;
+                places.at[ring] = advance(self.at[ring], shape.cells);
+            }
+            Spot::Next => places.next = advance(self.next, shape.rings),
+            Spot::Free => places.free = advance(self.free, shape.rings),
+            Spot::Mark => {}
+        }
+        places
     }
 }

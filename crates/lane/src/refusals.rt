@@ -1,34 +1,21 @@
-//! Why a lane is not opened, and why a step is not made.
+//! Why a lane is not opened, and why a call does not begin or a step is not made.
 ghost use Rattle.std.specs.Prelude.{◌≡◌};
 ghost use Rattle.lane.specs.Refusals.{open_number, step_number};
-ghost use Rattle.lane.specs.declared.refusals.Refusal.TheVariants.{Outside};
 
-use memory::NoAddress;
-use std::error::Error;
-use std::fmt;
+use thiserror::Error;
 
-#[derive(Clone, Copy, Debug, PartialEq, Eq)]
+#[derive(Clone, Copy, Debug, PartialEq, Eq, Error)]
 pub enum OpenRefusal {
-    /// A lane has 2 to 8 rings of 1 to 64 cells.
+    #[error("a lane has 2 to 8 rings of 1 to 64 cells")]
     OutOfRange,
-    /// The memory has fewer words than the lane needs.
+    #[error("the memory is too small for this lane")]
     TooSmall,
 }
 
-#[derive(Clone, Copy, Debug, PartialEq, Eq)]
+#[derive(Clone, Copy, Debug, PartialEq, Eq, Error)]
 pub enum Refusal {
-    /// The end's lane number or state is not the lane's.
+    #[error("this end belongs to another lane or another call")]
     WrongEnd,
-    /// The memory has no such address.
-    Outside(usize),
-}
-
-impl From<NoAddress> for Refusal {
-    ghost from_gives = { λ e r. r ≡ Outside e.address };
-
-    fn from(e: NoAddress) -> Refusal {
-        Refusal::Outside(e.address)
-    }
 }
 
 impl OpenRefusal {
@@ -50,29 +37,6 @@ impl Refusal {
     {
         match self {
             Refusal::WrongEnd => 5,
-            Refusal::Outside(_) => 6,
         }
     }
 }
-
-impl fmt::Display for OpenRefusal {
-    fn fmt<W: fmt::Write>(&self, f: &mut fmt::Formatter<W>) -> fmt::Result {
-        match self {
-            OpenRefusal::OutOfRange => f.write_str("a lane has 2 to 8 rings of 1 to 64 cells"),
-            OpenRefusal::TooSmall => f.write_str("the memory is too small for this lane"),
-        }
-    }
-}
-
-impl fmt::Display for Refusal {
-    fn fmt<W: fmt::Write>(&self, f: &mut fmt::Formatter<W>) -> fmt::Result {
-        match self {
-            Refusal::WrongEnd => f.write_str("this end belongs to another lane or another call"),
-            Refusal::Outside(address) => write!(f, "the memory has no address {address}"),
-        }
-    }
-}
-
-impl Error for OpenRefusal {}
-
-impl Error for Refusal {}

@@ -2,19 +2,16 @@
 ghost use Rattle.std.specs.Prelude.{◌≡◌, ◌+◌, ◌≤◌};
 ghost use Rattle.lane.specs.Layout.{ring_word, RingRead};
 
+use crate::shapes::Shape;
 use words::{Kind, RingNumber};
 
 /// The ring that a word names, if it is one of the lane's.
-pub(crate) fn ring_of(word: u64, rings: u8) -> Option<u8>
-    requires { rings ≤ 8 }
-    ensures { RingRead rings word result }
+pub(crate) fn ring_of(word: u64, shape: Shape) -> Option<u8>
+    ensures { RingRead shape.rings word result }
 {
     match RingNumber::read(word) {
-        Ok(ring) => if ring.number < rings {
-            Some(ring.number)
-        } else {
-            None
-        },
+        Ok(ring) if ring.number < shape.rings => Some(ring.number),
+        Ok(_) => None,
         Err(_) => None,
     }
 }

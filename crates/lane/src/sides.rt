@@ -38,16 +38,23 @@ pub struct Places {
     pub free: u8,
 }
 
+/// A cell that a side comes to: where it stands in its own ring, in the next list or in the free list, or the mark.
 #[derive(Clone, Copy)]
-pub struct Feeder<K> {
-    pub stage: Put<K>,
+pub enum Spot {
+    Own,
+    Next,
+    Free,
+    Mark,
+}
+
+/// A side, by the stages of its calls.
+#[derive(Clone, Copy)]
+pub struct Hand<S> {
+    pub stage: S,
     pub steps: u8,
     pub places: Places,
 }
 
-#[derive(Clone, Copy)]
-pub struct Drawer<K> {
-    pub stage: Take<K>,
-    pub steps: u8,
-    pub places: Places,
-}
+pub type Feeder<K> = Hand<Put<K>>;
+
+pub type Drawer<K> = Hand<Take<K>>;

@@ -1,65 +1,149 @@
-//! How a side goes on to another row, and how its call ends.
-ghost use Rattle.std.specs.Prelude.{◌≡◌, ℕ, ◌+◌, ◌<◌, ◌≤◌, None};
+//! What both sides do alike: begin a call, store, go on to another row, and end the call.
+ghost use Rattle.std.specs.Prelude.{◌≡◌, ◌≢◌, ℕ, ◌+◌, ◌<◌, ◌≤◌, None, length, MatchResult, MatchBool};
+ghost use Rattle.memory.specs.declared.Side.{Side};
+ghost use Rattle.memory.specs.declared.Side.TheVariants.{Feeder, Drawer};
+ghost use Rattle.lane.specs.Ends.{Fits, Begun, NotBegun};
+ghost use Rattle.lane.specs.Layout.{Within, words_of};
+ghost use Rattle.lane.specs.Moves.{StoredOn};
 ghost use Rattle.lane.specs.Stages.{take_ring, take_steps};
-ghost use Rattle.lane.specs.PutTable.{feeder_to, feeder_done, put_over};
-ghost use Rattle.lane.specs.TakeTable.{drawer_to, drawer_done, take_over, Found};
+ghost use Rattle.lane.specs.Hands.{first_hand, hand_begun, hand_to, hand_done, over};
+ghost use Rattle.lane.specs.TakeTable.{Found};
+ghost use Rattle.lane.specs.declared.sides.Put.TheVariants as put;
+ghost use Rattle.lane.specs.declared.sides.Take.TheVariants as take;
 
-use crate::answers::{Ended, PutAnswer, TakeAnswer};
-use crate::sides::{Drawer, Feeder, Put, Take};
+use crate::answers::{Ended, TakeAnswer};
+use crate::ends::{Busy, Idle, Unbegun};
+use crate::memory_calls::store;
+use crate::shapes::Shape;
+use crate::sides::{Hand, Places, Put, Spot, Take};
+use memory::{Memory, Side};
 use words::Kind;
 
-// The answer of a call that made this many steps before its last.
-fn ended<A>(answer: A, before: u8) -> Ended<A>
-    requires { before < 9 }
-    ensures { result ≡ record { answer = answer; steps = before + 1 } }
-{
-    Ended {
-        answer,
-        steps: before + 1,
+/// The stages of a side's calls.
+pub(crate) trait Stage: Copy {
+    // where no call is under way
+    ghost idle: { Self };
+
+    // whose calls these are
+    ghost side: { Side };
+
+    fn idle() -> Self
+        ensures { result ≡ idle };
+
+    fn is_idle(&self) -> bool
+        ensures { MatchBool result (self.now ≡ idle) (self.now ≢ idle) };
+
+    fn side() -> Side
+        ensures { result ≡ side };
+}
+
+impl<K: Kind> Stage for Put<K> {
+    ghost idle = { put.Idle };
+
+    ghost side = { Feeder };
+
+    fn idle() -> Put<K> {
+        Put::Idle
+    }
+
+    fn is_idle(&self) -> bool {
+        matches!(self, Put::Idle)
+    }
+
+    fn side() -> Side {
+        Side::Feeder
     }
 }
 
-impl<K: Kind> Feeder<K> {
-    pub(crate) fn stand(&mut self, stage: Put<K>) -> Option<Ended<PutAnswer<K>>>
-        requires { self.old.steps < 8 }
-        ensures { (self.new ≡ feeder_to self.old stage self.old.places) × (result ≡ None) }
+impl<K: Kind> Stage for Take<K> {
+    ghost idle = { take.Idle };
+
+    ghost side = { Drawer };
+
+    fn idle() -> Take<K> {
+        Take::Idle
+    }
+
+    fn is_idle(&self) -> bool {
+        matches!(self, Take::Idle)
+    }
+
+    fn side() -> Side {
+        Side::Drawer
+    }
+}
+
+impl<S: Stage> Hand<S> {
+    /// A side with no call under way, at the beginning of its lists but for the free one.
+    pub(crate) fn new(free: u8) -> Hand<S>
+        ensures { result ≡ first_hand S.Stage.idle free }
+    {
+        Hand {
+            stage: S::idle(),
+            steps: 0,
+            places: Places {
+                ring: 0,
+                at: [0; 8],
+                next: 0,
+                free,
+            },
+        }
+    }
+
+    // a call begins at its first row, if none is under way and the end is this lane's
+    pub(crate) fn begin<E, T: Copy>(
+        &mut self,
+        first: S,
+        lane: u32,
+        end: Idle<E>,
+        item: T,
+    ) -> Result<Busy<E>, Unbegun<E, T>>
+        ensures { MatchResult result
+            (λ b. Begun (Fits lane S.Stage.idle self.old.stage) (hand_begun self.old first) self.new end b)
+            (λ e. NotBegun (Fits lane S.Stage.idle self.old.stage) self.old self.new end item e) }
+    {
+        if !self.stage.is_idle() || end.lane != lane {
+            return Err(Unbegun { end, item });
+        }
+        self.stage = first;
+        self.steps = 0;
+        Ok(end.begin())
+    }
+
+    // stores a word in a cell that the side comes to, and moves the side's position on
+    pub(crate) fn store<M: Memory>(&mut self, memory: &mut M, shape: Shape, spot: Spot, word: u64)
+        requires within { Within shape.rings shape.cells self.old.places }
+        requires room { words_of shape.rings shape.cells ≤ length (M.Memory.meaning memory.old).landed }
+        ensures stored { StoredOn M.Memory shape.rings shape.cells S.Stage.side spot word self.old self.new memory.old memory.new }
+        ensures size { length (M.Memory.meaning memory.new).landed ≡ length (M.Memory.meaning memory.old).landed }
+    {
+        store(memory, S::side(), self.places.cell(shape, spot), word);
+        self.places = self.places.moved_on(shape, spot);
+    }
+
+    // the call goes on at this row
+    pub(crate) fn stand<A>(&mut self, stage: S) -> Option<Ended<A>>
+        requires { self.old.steps < 9 }
+        ensures { (self.new ≡ hand_to self.old stage self.old.places) × (result ≡ None) }
     {
         self.stage = stage;
         self.steps += 1;
         None
     }
 
-    pub(crate) fn finish(&mut self, answer: PutAnswer<K>) -> Option<Ended<PutAnswer<K>>>
-        requires { self.old.steps < 8 }
-        ensures { (self.new ≡ feeder_done self.old self.old.places) × (result ≡ put_over self.old answer) }
+    // the call is over with this answer
+    pub(crate) fn finish<A>(&mut self, answer: A) -> Option<Ended<A>>
+        requires { self.old.steps < 9 }
+        ensures { (self.new ≡ hand_done S.Stage.idle self.old.places) × (result ≡ over self.old answer) }
     {
-        let last = ended(answer, self.steps);
-        self.stage = Put::Idle;
+        let steps = self.steps + 1;
+        self.stage = S::idle();
         self.steps = 0;
-        Some(last)
+        Some(Ended { answer, steps })
     }
 }
 
-impl<K: Kind> Drawer<K> {
-    pub(crate) fn stand(&mut self, stage: Take<K>) -> Option<Ended<TakeAnswer<K>>>
-        requires { self.old.steps < 9 }
-        ensures { (self.new ≡ drawer_to self.old stage self.old.places) × (result ≡ None) }
-    {
-        self.stage = stage;
-        self.steps += 1;
-        None
-    }
-
-    pub(crate) fn finish(&mut self, answer: TakeAnswer<K>) -> Option<Ended<TakeAnswer<K>>>
-        requires { self.old.steps < 9 }
-        ensures { (self.new ≡ drawer_done self.old self.old.places) × (result ≡ take_over self.old answer) }
-    {
-        let last = ended(answer, self.steps);
-        self.stage = Take::Idle;
-        self.steps = 0;
-        Some(last)
-    }
-
+impl<K: Kind> Hand<Take<K>> {
     // An item goes to the last row; a word of no item ends the call.
     pub(crate) fn found(&mut self, w: u64) -> Option<Ended<TakeAnswer<K>>>
         requires { self.old.steps < 8 }

@@ -1,5 +1,5 @@
-pub mod Writing
 pub mod Digits
+pub mod Writing
 pub mod Pieces
 pub mod Whole
 pub mod Sizes

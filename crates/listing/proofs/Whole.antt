@@ -5,6 +5,7 @@ use Rattle.run.specs.declared.records.Answer.TheVariants.{Accepted}
 use Rattle.run.specs.declared.records.Record.{Record}
 use Rattle.listing.specs.Listing.{line, lines, end_line, listing}
 use Rattle.listing.specs.declared.lines.End.{End}
+use Rattle.listing.proofs.Pieces.{end_length}
 
 -- what an index past the end of a list of records reads
 abbrev pub no_record : Record
@@ -31,3 +32,7 @@ all_lines rs i h = ap lines (take_all i rs h)
 
 pub end_fits : (rs : List Record) (e : End) (i : ℕ) → length rs ≤ i → length (lines (take i rs)) + length (end_line e) ≡ length (listing rs e)
 end_fits rs e i h = omega (arith, ap length (all_lines rs i h), length-append (lines rs) (end_line e))
+
+-- a listing has its last line at least
+pub some_text : (rs : List Record) (e : End) → 0 < length (listing rs e)
+some_text rs e = omega (arith, length-append (lines rs) (end_line e), end_length e)

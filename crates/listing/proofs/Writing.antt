@@ -1,18 +1,8 @@
 -- Texts written at the start of a place, one behind the other.
-use Rattle.std.proofs.Common.{◌≡◌, ℕ, ◌+◌, ◌-◌, ◌<◌, ◌≤◌, List, [], ◌∷◌, ◌++◌, length, get_or, take, drop, set, sym, refl, ap, ◌∙◌, subst, arith}
+use Rattle.std.proofs.Common.{◌≡◌, ℕ, ◌+◌, ◌-◌, ◌≤◌, List, [], ◌++◌, length, take, drop, sym, ap, ◌∙◌, subst, arith}
 use borrow.Rule.Slice.PartMut.{put_mid}
-use Rattle.std.proofs.lemmas.List.{append_assoc, append-nil, length-append, length_push, drop_more, drop-drop, drop_at, drop_all, take_at, take_rest, set_at, length-drop}
-use Rattle.listing.specs.Places.{Written, Appended}
-
--- one byte more behind a text
-pub byte_more : {t before after : List ℕ} {n : ℕ} (b : ℕ) → Written t before after n → n < length before → Written (t ++ (b ∷ [])) before (set after n b) (n + 1)
-byte_more {t} {before} {after} {n} b w h =
-    let e : after ≡ t ++ (get_or before (length t) 0 ∷ drop (length t + 1) before) = w.bytes ∙ ap (λ x. t ++ x) (drop_more before (length t) 0 (omega (arith, w.counted))) in
-    let l : length (t ++ (b ∷ [])) ≡ length t + 1 = length_push t b in
-    record {
-      counted = omega (arith, l, w.counted);
-      bytes = ap (λ x. set x n b) e ∙ set_at t _ _ b n (sym w.counted) ∙ sym (append_assoc t (b ∷ []) (drop (length t + 1) before)) ∙ ap (λ k. (t ++ (b ∷ [])) ++ drop k before) (sym l);
-    }
+use Rattle.std.proofs.lemmas.List.{append_assoc, append-nil, length-append, drop-drop, drop_at, drop_all, take_at, take_rest, length-drop}
+use Rattle.listing.specs.Places.{Written}
 
 -- one text behind another, written into the part that begins at its end
 pub text_more : {t p before after part : List ℕ} {n k : ℕ} → Written t before after n → n ≤ length after → Written p (take (length after - n) (drop n after)) part k → Written (t ++ p) before (put_mid n (length after - n) after part) (n + k)
@@ -26,15 +16,6 @@ text_more {t} {p} {before} {after} {part} {n} {k} w h v =
       counted = omega (arith, l, w.counted, v.counted);
       bytes = ap (λ x. x ++ (part ++ drop (length after - n) (drop n after))) m ∙ ap (λ x. t ++ (part ++ x)) z ∙ ap (λ x. t ++ x) (append-nil part) ∙ ap (λ x. t ++ x) e ∙ sym (append_assoc t p (drop (length t + length p) before)) ∙ ap (λ i. (t ++ p) ++ drop i before) (sym l);
     }
-
-pub nothing : (before : List ℕ) → Written [] before before 0
-nothing before = record { counted = refl; bytes = refl }
-
-pub part_more : {p after part : List ℕ} {n k : ℕ} → n ≤ length after → Written p (take (length after - n) (drop n after)) part k → Appended p n after (put_mid n (length after - n) after part) (n + k)
-part_more {p} {after} {part} {n} {k} h v = record {
-  counted = omega (arith, v.counted);
-  behind = λ front first w. text_more w h v;
-}
 
 pub same_text : {t p before after : List ℕ} {n : ℕ} → t ≡ p → Written t before after n → Written p before after n
 same_text {t} {p} {before} {after} {n} e w = subst (λ (x : List ℕ). Written x before after n) e w

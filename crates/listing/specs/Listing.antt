@@ -1,10 +1,11 @@
 -- The listing of a run: a line for each record of the log, and the end line.
-use Rattle.std.specs.Prelude.{ℕ, List, [], ◌∷◌, ◌++◌, codes, decimal}
+use Rattle.std.specs.Prelude.{ℕ, List, [], ◌∷◌, ◌++◌, unwrap_or, codes, decimal}
 use Rattle.run.specs.declared.records.Answer.{Answer}
 use Rattle.run.specs.declared.records.Answer.TheVariants.{Accepted, NoRing, Taken, Empty}
 use Rattle.run.specs.declared.records.Record.{Record}
 use Rattle.listing.specs.Numerals.{hexadecimal}
 use Rattle.listing.specs.declared.lines.End.{End}
+use Rattle.listing.specs.declared.lines.Refusal.{Refusal}
 
 -- the side whose call ended so
 abbrev pub side_letter : Answer → List ℕ
@@ -36,9 +37,13 @@ spaced (x ∷ y ∷ xs) = x ++ (codes " " ++ spaced (y ∷ xs))
 unfoldable pub line : Record → List ℕ
 line r = spaced (decimal r.index ∷ side_letter r.answer ∷ answer_text r.answer ∷ decimal r.steps ∷ word_text r.answer ∷ [])
 
+-- what the last line tells where no refusal stopped the run
+abbrev pub no_refusal : Refusal
+no_refusal = record { number = 0; byte = 0 }
+
 -- the last line: the moves made before the stop, the refusal or 0, and its byte in the book or 0
 unfoldable pub end_line : End → List ℕ
-end_line e = spaced (codes "end" ∷ decimal e.moves ∷ decimal e.number ∷ decimal e.byte ∷ [])
+end_line e = let r = unwrap_or e.refusal no_refusal in spaced (codes "end" ∷ decimal e.moves ∷ decimal r.number ∷ decimal r.byte ∷ [])
 
 abbrev pub lines : List Record → List ℕ
 lines [] = []

@@ -3,7 +3,7 @@
 
 mod lines;
 mod listings;
-mod numerals;
+mod texts;
 
-pub use lines::End;
+pub use lines::{End, Refusal};
 pub use listings::put_listing;

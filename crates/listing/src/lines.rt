@@ -1,25 +1,23 @@
-//! One line of the listing, written at the start of a place.
+//! One line of the listing.
 ghost use Rattle.std.specs.Prelude.{◌≡◌, ◌+◌, ◌<◌, ◌≤◌, ◌++◌, length, codes, decimal};
+ghost use Rattle.arrayvec.specs.ArrayVec.{array_vec_len};
 ghost use Rattle.listing.specs.Listing.{side_letter, answer_text, word_text, line, end_line};
-ghost use Rattle.listing.specs.Places.{Written, Appended};
 
-use crate::numerals::{decimal_length, put_decimal, put_word};
+use crate::texts::Text;
 use run::{Answer, Record};
 
-/// How a run stopped: the moves made before, the refusal or 0, and its byte in the book or 0.
+/// A refusal as a baker sees it: its number, and the byte of the book that it names.
 #[derive(Clone, Copy, Debug, PartialEq, Eq)]
-pub struct End {
-    pub moves: usize,
+pub struct Refusal {
     pub number: u8,
     pub byte: usize,
 }
 
-fn put_text(text: &[u8], place: &mut [u8]) -> usize
-    requires { length text.now ≤ length place.old }
-    ensures { Written text.now place.old place.new result }
-{
-    place[0..text.len()].copy_from_slice(text);
-    text.len()
+/// How a run stopped: the moves made before, and what it was refused for, if anything.
+#[derive(Clone, Copy, Debug, PartialEq, Eq)]
+pub struct End {
+    pub moves: usize,
+    pub refusal: Option<Refusal>,
 }
 
 // What stands between the move and the steps.
@@ -35,94 +33,43 @@ fn side_and_answer(answer: Answer) -> &'static [u8]
     }
 }
 
-fn word_length(answer: Answer) -> usize
-    ensures { (result ≡ length (word_text answer)) × (result ≤ 16) }
+fn push_item(text: &mut Text, answer: Answer)
+    requires { array_vec_len text.old.bytes + 16 ≤ 80 }
+    ensures text { text.new.bytes.items ≡ text.old.bytes.items ++ word_text answer }
+    ensures len { array_vec_len text.new.bytes ≤ array_vec_len text.old.bytes + 16 }
 {
     match answer {
-        Answer::Accepted(_) | Answer::NoRing(_) | Answer::Taken(_) => 16,
-        Answer::Empty => 1,
+        Answer::Accepted(word) | Answer::NoRing(word) | Answer::Taken(word) => text.push_word(word),
+        Answer::Empty => text.push(b"-"),
     }
 }
 
-fn put_item(answer: Answer, place: &mut [u8]) -> usize
-    requires { length (word_text answer) ≤ length place.old }
-    ensures { Written (word_text answer) place.old place.new result }
+pub(crate) fn line_of(call: &Record) -> Text
+    ensures text { result.bytes.items ≡ line call.now }
+    ensures short { call.now.index < 65536 → length (line call.now) ≤ 37 }
 {
-    match answer {
-        Answer::Accepted(word) => put_word(word, place),
-        Answer::NoRing(word) => put_word(word, place),
-        Answer::Taken(word) => put_word(word, place),
-        Answer::Empty => put_text(b"-", place),
-    }
+    let mut text = Text::new();
+    text.push_decimal(call.index as u64);
+    text.push(side_and_answer(call.answer));
+    text.push_decimal(call.steps as u64);
+    text.push(b" ");
+    push_item(&mut text, call.answer);
+    text.push(b"\n");
+    text
 }
 
-fn append_text(text: &[u8], at: usize, place: &mut [u8]) -> usize
-    requires { at + length text.now ≤ length place.old }
-    ensures { Appended text.now at place.old place.new result }
+pub(crate) fn end_line_of(end: &End) -> Text
+    ensures text { result.bytes.items ≡ end_line end.now }
+    ensures short { length (end_line end.now) ≤ 50 }
 {
-    at + put_text(text, &mut place[at..])
-}
-
-fn append_decimal(n: u64, at: usize, place: &mut [u8]) -> usize
-    requires { at + length (decimal n) ≤ length place.old }
-    ensures { Appended (decimal n) at place.old place.new result }
-{
-    at + put_decimal(n, &mut place[at..])
-}
-
-fn append_item(answer: Answer, at: usize, place: &mut [u8]) -> usize
-    requires { at + length (word_text answer) ≤ length place.old }
-    ensures { Appended (word_text answer) at place.old place.new result }
-{
-    at + put_item(answer, &mut place[at..])
-}
-
-pub(crate) fn line_length(call: &Record) -> usize
-    ensures counted { result ≡ length (line call.now) }
-    ensures short { call.now.index < 65536 → result ≤ 37 }
-{
-    decimal_length(call.index as u64)
-        + side_and_answer(call.answer).len()
-        + decimal_length(call.steps as u64)
-        + 1
-        + word_length(call.answer)
-        + 1
-}
-
-pub(crate) fn put_line(call: &Record, place: &mut [u8]) -> usize
-    requires { length (line call.now) ≤ length place.old }
-    ensures { Written (line call.now) place.old place.new result }
-{
-    let at = put_decimal(call.index as u64, place);
-    let at = append_text(side_and_answer(call.answer), at, place);
-    let at = append_decimal(call.steps as u64, at, place);
-    let at = append_text(b" ", at, place);
-    let at = append_item(call.answer, at, place);
-    append_text(b"\n", at, place)
-}
-
-pub(crate) fn end_length(end: &End) -> usize
-    ensures counted { result ≡ length (end_line end.now) }
-    ensures short { result ≤ 50 }
-{
-    b"end ".len()
-        + decimal_length(end.moves as u64)
-        + 1
-        + decimal_length(end.number as u64)
-        + 1
-        + decimal_length(end.byte as u64)
-        + 1
-}
-
-pub(crate) fn put_end(end: &End, place: &mut [u8]) -> usize
-    requires { length (end_line end.now) ≤ length place.old }
-    ensures { Written (end_line end.now) place.old place.new result }
-{
-    let at = put_text(b"end ", place);
-    let at = append_decimal(end.moves as u64, at, place);
-    let at = append_text(b" ", at, place);
-    let at = append_decimal(end.number as u64, at, place);
-    let at = append_text(b" ", at, place);
-    let at = append_decimal(end.byte as u64, at, place);
-    append_text(b"\n", at, place)
+    let told = end.refusal.unwrap_or(Refusal { number: 0, byte: 0 });
+    let mut text = Text::new();
+    text.push(b"end ");
+    text.push_decimal(end.moves as u64);
+    text.push(b" ");
+    text.push_decimal(told.number as u64);
+    text.push(b" ");
+    text.push_decimal(told.byte as u64);
+    text.push(b"\n");
+    text
 }

@@ -4,7 +4,8 @@
 mod runs;
 mod shapes;
 
-use runs::{Kind, can_happen};
+use memory::{Buffer, Loose, Prompt};
+use runs::{can_happen, play};
 use shapes::{SHAPES, Shape};
 
 fn word(happens: bool) -> &'static str {
@@ -14,9 +15,16 @@ fn word(happens: bool) -> &'static str {
 fn print_row(rt: &HostRuntime, shape: &Shape) -> anyhow::Result<()> {
     let name = shape.name;
     let asks = shape.asks;
-    let prompt = word(can_happen(Kind::Prompt, shape));
-    let loose = word(can_happen(Kind::Loose, shape));
-    let pile = word(can_happen(Kind::Pile, shape));
+    let outcome = shape.outcome;
+    let prompt = word(can_happen(outcome, |words, order| {
+        play(&mut Prompt::new(words), shape, order)
+    }));
+    let loose = word(can_happen(outcome, |words, order| {
+        play(&mut Loose::new(words), shape, order)
+    }));
+    let pile = word(can_happen(outcome, |words, order| {
+        play(&mut Buffer::pile(words), shape, order)
+    }));
     println!(rt; "{name} | {asks} | {prompt} | {loose} | {pile}")?;
     Ok(())
 }

@@ -1,12 +1,18 @@
 //! The shapes: what each side does, and the outcome that is asked about.
 
+/// Which of the two looks of a shape.
+#[derive(Clone, Copy)]
+pub enum Which {
+    First,
+    Second,
+}
+
 #[derive(Clone, Copy)]
 pub enum Step {
     Store(usize, u64),
     Bar,
-    // a look at an address, kept as what was seen first or second
-    Look(usize, usize),
-    Rest,
+    // a look at an address
+    Look(usize, Which),
 }
 
 #[derive(Clone, Copy)]
@@ -21,8 +27,8 @@ pub enum Outcome {
 pub struct Shape {
     pub name: &'static str,
     pub asks: &'static str,
-    pub feeder: [Step; 3],
-    pub drawer: [Step; 3],
+    pub feeder: &'static [Step],
+    pub drawer: &'static [Step],
     pub outcome: Outcome,
 }
 
@@ -30,20 +36,16 @@ const X: usize = 0;
 
 const Y: usize = 1;
 
-const FIRST: usize = 0;
-
-const SECOND: usize = 1;
-
 // data is at X, and the flag that announces it at Y
-const PASS: [Step; 3] = [Step::Store(X, 1), Step::Store(Y, 1), Step::Rest];
+const PASS: &[Step] = &[Step::Store(X, 1), Step::Store(Y, 1)];
 
-const PASS_BARRED: [Step; 3] = [Step::Store(X, 1), Step::Bar, Step::Store(Y, 1)];
+const PASS_BARRED: &[Step] = &[Step::Store(X, 1), Step::Bar, Step::Store(Y, 1)];
 
-const RECEIVE: [Step; 3] = [Step::Look(Y, FIRST), Step::Look(X, SECOND), Step::Rest];
+const RECEIVE: &[Step] = &[Step::Look(Y, Which::First), Step::Look(X, Which::Second)];
 
-const TWICE: [Step; 3] = [Step::Store(X, 1), Step::Store(X, 2), Step::Rest];
+const TWICE: &[Step] = &[Step::Store(X, 1), Step::Store(X, 2)];
 
-const LOOK_TWICE: [Step; 3] = [Step::Look(X, FIRST), Step::Look(X, SECOND), Step::Rest];
+const LOOK_TWICE: &[Step] = &[Step::Look(X, Which::First), Step::Look(X, Which::Second)];
 
 pub static SHAPES: [Shape; 11] = [
     Shape {
@@ -77,15 +79,15 @@ pub static SHAPES: [Shape; 11] = [
     Shape {
         name: "store buffering",
         asks: "neither sees the other's store",
-        feeder: [Step::Store(X, 1), Step::Look(Y, FIRST), Step::Rest],
-        drawer: [Step::Store(Y, 1), Step::Look(X, SECOND), Step::Rest],
+        feeder: &[Step::Store(X, 1), Step::Look(Y, Which::First)],
+        drawer: &[Step::Store(Y, 1), Step::Look(X, Which::Second)],
         outcome: Outcome::Seen(0, 0),
     },
     Shape {
         name: "store buffering with bars",
         asks: "neither sees the other's store",
-        feeder: [Step::Store(X, 1), Step::Bar, Step::Look(Y, FIRST)],
-        drawer: [Step::Store(Y, 1), Step::Bar, Step::Look(X, SECOND)],
+        feeder: &[Step::Store(X, 1), Step::Bar, Step::Look(Y, Which::First)],
+        drawer: &[Step::Store(Y, 1), Step::Bar, Step::Look(X, Which::Second)],
         outcome: Outcome::Seen(0, 0),
     },
     Shape {
@@ -105,22 +107,22 @@ pub static SHAPES: [Shape; 11] = [
     Shape {
         name: "own store",
         asks: "not seen by its own side",
-        feeder: [Step::Store(X, 1), Step::Look(X, FIRST), Step::Rest],
-        drawer: [Step::Rest, Step::Rest, Step::Rest],
+        feeder: &[Step::Store(X, 1), Step::Look(X, Which::First)],
+        drawer: &[],
         outcome: Outcome::Seen(0, 0),
     },
     Shape {
         name: "both sides to one address",
         asks: "the feeder's word stays",
-        feeder: [Step::Store(X, 1), Step::Rest, Step::Rest],
-        drawer: [Step::Store(X, 2), Step::Rest, Step::Rest],
+        feeder: &[Step::Store(X, 1)],
+        drawer: &[Step::Store(X, 2)],
         outcome: Outcome::Ends(1),
     },
     Shape {
         name: "both sides to one address",
         asks: "the drawer's word stays",
-        feeder: [Step::Store(X, 1), Step::Rest, Step::Rest],
-        drawer: [Step::Store(X, 2), Step::Rest, Step::Rest],
+        feeder: &[Step::Store(X, 1)],
+        drawer: &[Step::Store(X, 2)],
         outcome: Outcome::Ends(2),
     },
 ];

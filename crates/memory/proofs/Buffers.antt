@@ -250,6 +250,6 @@ module _ {X : Type 0} (G : Ghosts X) where
   store_sent s a w x y (Err e) h = refused h.beyond h.same
 
   -- a look that finds no own store gives the answer from below
-  pub looked_below : (s : Side) (a n : ℕ) (x : Buffer X) (z y : X) (r : Result ℕ NoAddress) → newest a (mine s (parts x)) ≡ None → Does G (Size n) x.below z → MatchResult r (λ w. Does G (Look s a w) z y) (λ e. NoPlace G.meaning a e.address z y) → let u : Buffer X = record { below = y; depth = x.depth; feeder = x.feeder; drawer = x.drawer } in MatchResult r (λ w. Made (λ v. above G (parts v)) (λ j p q. BufferCall G j (parts p) (parts q)) (Look s a w) x u) (λ e. NoPlace (λ v. above G (parts v)) a e.address x u)
-  looked_below s a n x z y (Ok w) e t h = buffer_made (Look s a w) x _ (looks_below e t h refl)
-  looked_below s a n x z y (Err f) e t h = record { beyond = subst (λ (m : Meaning). length m.landed ≤ a) t.rule.1 h.beyond; names = h.names; same = ap (over (parts x).feeder (parts x).drawer) (h.same ∙ t.rule.1) }
+  pub looked_below : (s : Side) (a n : ℕ) (x u : Buffer X) (z : X) (r : Result ℕ NoAddress) → newest a (mine s (parts x)) ≡ None → Does G (Size n) x.below z → MatchResult r (λ w. Does G (Look s a w) z u.below) (λ e. NoPlace G.meaning a e.address z u.below) → parts u ≡ with_below u.below (parts x) → MatchResult r (λ w. Made (λ v. above G (parts v)) (λ j p q. BufferCall G j (parts p) (parts q)) (Look s a w) x u) (λ e. NoPlace (λ v. above G (parts v)) a e.address x u)
+  looked_below s a n x u z (Ok w) e t h b = buffer_made (Look s a w) x u (looks_below e t h b)
+  looked_below s a n x u z (Err f) e t h b = record { beyond = subst (λ (m : Meaning). length m.landed ≤ a) t.rule.1 h.beyond; names = h.names; same = ap (above G) b ∙ ap (over (parts x).feeder (parts x).drawer) (h.same ∙ t.rule.1) }

@@ -1,6 +1,6 @@
 pub mod Tidy
 pub mod Landing
-pub mod Tables
+pub mod Owns
 pub mod Lines
 pub mod Entries
 pub mod Prompts

@@ -1,11 +1,14 @@
 -- What storing, looking and taking out do to the line that a table of waiting stores stands for.
-use Rattle.std.proofs.Common.{◌≡◌, ℕ, ◌+◌, ◌<◌, ◌≤◌, Bool, true, false, cond, eqb, List, [], ◌∷◌, ◌++◌, length, get_or, take, drop, sym, refl, ap, ◌∙◌, append_assoc, add-zero, add_assoc, zero-add, one-add, arith, eq-eqb}
-use Rattle.std.proofs.lemmas.List.{append-nil, take_more, take_all}
+use Rattle.std.proofs.Common.{◌≡◌, ℕ, zero, suc, ◌+◌, ◌<◌, ◌≤◌, Bool, true, false, cond, not, ◌||◌, eqb, List, [], ◌∷◌, ◌++◌, length, get_or, take, drop, reverse, filter, find, remove, count_by, slice_get, Option, Some, None, unwrap_or, MatchOption, sym, refl, ap, ◌∙◌, subst, append_assoc, add-zero, add_assoc, zero-add, one-add, add-one, arith, eq-eqb, length-drop}
+use Rattle.std.proofs.lemmas.List.{append-nil, take_more, take_all, get_or-drop, get_or_default, reverse-append}
+use Rattle.std.proofs.lemmas.List.Folds.{find-append, list_any-append}
+use Rattle.std.proofs.lemmas.List.Sums.{sum_by-cons}
+use Rattle.std.proofs.Math.Seq.{split_at}
+use Rattle.std.specs.List.{zip, list_any, range_with_len}
+use Rattle.std.specs.Option.{option_map, option_or}
 use Rattle.memory.specs.declared.line.Waiting.{Waiting}
 use Rattle.memory.specs.Meaning.{Entry, store, bar, tidy, tidy_from, words_to, last_or, stores, Out, here, past}
-use Rattle.memory.specs.Table.{Removed}
 use Rattle.memory.specs.Line.{fence, entries_of, line_of, older_than, holds_back, free, ready, blank, Numbered, TakenOut}
-use Rattle.memory.proofs.Tables.{removed_is}
 use Rattle.memory.proofs.Tidy.{idle, tidy_store, tidy-++, tidy_front, tidy_back, words-++, words_tidy, last-++, stores-++, stores_tidy}
 
 abbrev pub stored : Waiting → Entry
@@ -85,24 +88,31 @@ seen-++ a w l k = ap (λ (z : List ℕ). last_or z w) (words-++ a l k) ∙ last-
 seen_fenced : (a w : ℕ) (l : List Waiting) (f : Bool) → last_or (words_to a (line_of l f)) w ≡ last_or (words_to a (entries_of l false)) w
 seen_fenced a w l f = ap (λ (z : List ℕ). last_or z w) (words_tidy a true (entries_of l f) ∙ ap (words_to a) (entries_fenced l f)) ∙ (seen-++ a w (entries_of l false) (fence f) ∙ ap (λ (z : List ℕ). last_or z (last_or (words_to a (entries_of l false)) w)) (fence_words a f))
 
--- the word of the youngest store to a among the first i, or w
-abbrev pub seen_in : List Waiting → ℕ → ℕ → ℕ → ℕ
-seen_in l i a w = last_or (words_to a (entries_of (take i l) false)) w
+seen_one : (a w : ℕ) (v : Waiting) → last_or (words_to a (stored v ∷ [])) w ≡ cond (eqb v.address a) v.word w
+seen_one a w v = elim (eqb v.address a) as (λ t. last_or (cond t (v.word ∷ []) []) w ≡ cond t v.word w) [ true ↦ refl | false ↦ refl ]
 
-seen_one : (a w x : ℕ) (v : Waiting) → last_or (words_to a (stored v ∷ [])) w ≡ cond (eqb v.address a) v.word w
-seen_one a w x v = elim (eqb v.address a) as (λ t. last_or (cond t (v.word ∷ []) []) w ≡ cond t v.word w) [ true ↦ refl | false ↦ refl ]
+-- the youngest store to a
+abbrev pub youngest_to : ℕ → List Waiting → Option Waiting
+youngest_to a l = find (λ v. eqb v.address a) (reverse l)
 
-pub seen_more : (l : List Waiting) (i a w : ℕ) → i < length l → seen_in l (i + 1) a w ≡ cond (eqb (get_or l i blank).address a) (get_or l i blank).word (seen_in l i a w)
-seen_more l i a w h =
-    let v = get_or l i blank in
-    ap (λ (z : List Waiting). last_or (words_to a (entries_of z false)) w) (take_more l i blank h)
-    ∙ (ap (λ (z : List Entry). last_or (words_to a z) w) (entries_split (take i l) v [] false)
-    ∙ (seen-++ a w (entries_of (take i l) v.barred) (stored v ∷ [])
-    ∙ (seen_one a (last_or (words_to a (entries_of (take i l) v.barred)) w) 0 v
-    ∙ ap (λ (z : ℕ). cond (eqb v.address a) v.word z) (sym (ap (λ (z : List ℕ). last_or z w) (words_tidy a true (entries_of (take i l) v.barred))) ∙ seen_fenced a w (take i l) v.barred))))
+youngest_word : (a w : ℕ) (l : List Waiting) → unwrap_or (option_map {U = ℕ} (λ v. v.word) (youngest_to a l)) w ≡ last_or (words_to a (entries_of l false)) w
+youngest_word a w [] = refl
+youngest_word a w (v ∷ l) =
+    ap (λ z. unwrap_or (option_map {U = ℕ} (λ u. u.word) (find (λ u. eqb u.address a) z)) w) (reverse-append (v ∷ []) l)
+    ∙ (ap (λ o. unwrap_or (option_map {U = ℕ} (λ u. u.word) o) w) (find-append (λ u. eqb u.address a) (reverse l) (v ∷ []))
+    ∙ (go (youngest_to a l) (eqb v.address a)
+    ∙ (ap (λ z. unwrap_or (option_map {U = ℕ} (λ u. u.word) (youngest_to a l)) z) (sym (seen_one a w v))
+    ∙ (youngest_word a (last_or (words_to a (stored v ∷ [])) w) l
+    ∙ (sym (seen-++ a w (stored v ∷ []) (entries_of l false))
+    ∙ (ap (λ z. last_or (words_to a (stored v ∷ entries_of l false)) (last_or z w)) (sym (fence_words a v.barred)) ∙ sym (seen-++ a w (fence v.barred) (stored v ∷ entries_of l false))))))))
+  where
+    go : (o : Option Waiting) (t : Bool) → unwrap_or (option_map {U = ℕ} (λ u. u.word) (option_or o (cond t (Some v) None))) w ≡ unwrap_or (option_map {U = ℕ} (λ u. u.word) o) (cond t v.word w)
+    go None true = refl
+    go None false = refl
+    go (Some u) t = refl
 
-pub seen_all : (l : List Waiting) (f : Bool) (i a w : ℕ) → length l ≤ i → seen_in l i a w ≡ last_or (words_to a (line_of l f)) w
-seen_all l f i a w h = ap (λ (z : List Waiting). last_or (words_to a (entries_of z false)) w) (take_all i l h) ∙ sym (seen_fenced a w l f)
+pub youngest_seen : (a : ℕ) (l : List Waiting) (f : Bool) (w : ℕ) → unwrap_or (option_map {U = ℕ} (λ v. v.word) (youngest_to a l)) w ≡ last_or (words_to a (line_of l f)) w
+youngest_seen a l f w = youngest_word a w l ∙ sym (seen_fenced a w l f)
 
 -- what can land
 
@@ -131,25 +141,33 @@ no_way : (x : Bool) → cond x false false ≡ false
 no_way true = refl
 no_way false = refl
 
--- a store that is held back by the next older one, or not
-pub held_back : (l : List Waiting) (i a : ℕ) → i < length l → holds_back (get_or l i blank) (get_or l (i + 1) blank) a ≡ true → false ≡ free a (older_than l (i + 1))
-held_back l i a h e = sym (free_more l i a h ∙ stops (eqb (get_or l i blank).address a) (get_or l (i + 1) blank).barred (free a (older_than l i)) e)
-  where
-    stops : (t u x : Bool) → cond t true u ≡ true → cond x (cond t false (cond u false true)) false ≡ false
-    stops true u true e = refl
-    stops true u false e = refl
-    stops false true true e = refl
-    stops false true false e = refl
-    stops false false x e = absurd (let z : ◌≡◌ {A = ℕ} 0 1 = cc in omega arith)
+-- each of the first i stores with the one that follows it
+abbrev pub followed : List Waiting → ℕ → List (Waiting × Waiting)
+followed l i = zip (take i l) (drop 1 l)
 
-pub not_held_back : (l : List Waiting) (i a : ℕ) → i < length l → holds_back (get_or l i blank) (get_or l (i + 1) blank) a ≡ false → free a (older_than l i) ≡ free a (older_than l (i + 1))
-not_held_back l i a h e = sym (free_more l i a h ∙ passes (eqb (get_or l i blank).address a) (get_or l (i + 1) blank).barred (free a (older_than l i)) e)
+zip_more : {A B : Type 0} (xs : List A) (ys : List B) (i : ℕ) (d : A) (e : B) → i < length xs → i < length ys → zip (take (suc i) xs) ys ≡ zip (take i xs) ys ++ ((get_or xs i d, get_or ys i e) ∷ [])
+zip_more [] ys i d e h k = absurd (omega arith)
+zip_more (x ∷ xs) [] i d e h k = absurd (omega arith)
+zip_more (x ∷ xs) (y ∷ ys) zero d e h k = refl
+zip_more (x ∷ xs) (y ∷ ys) (suc i) d e h k = ap (λ z. (x, y) ∷ z) (zip_more xs ys i d e (omega arith) (omega arith))
+
+-- a store can land if none of the older ones holds it back
+pub unheld : (l : List Waiting) (a i : ℕ) → i < length l → not (list_any (λ p. holds_back p.0 p.1 a) (followed l i)) ≡ free a (older_than l i)
+unheld l a zero h = ap (free a) (sym (older_none l))
+unheld l a (suc i) h =
+    let v = get_or l i blank in let u = get_or l (i + 1) blank in let older = followed l i in
+    let more : followed l (suc i) ≡ older ++ ((v, u) ∷ []) = zip_more l (drop 1 l) i blank blank (omega arith) (omega (arith, length-drop 1 l)) ∙ ap (λ z. older ++ ((v, z) ∷ [])) (get_or-drop 1 l i blank ∙ ap (λ n. get_or l n blank) (one-add i ∙ sym (add-one i))) in
+    ap (λ z. not (list_any (λ p. holds_back p.0 p.1 a) z)) more
+    ∙ (ap not (list_any-append (λ p. holds_back p.0 p.1 a) older ((v, u) ∷ []))
+    ∙ (go (list_any (λ p. holds_back p.0 p.1 a) older) (eqb v.address a) u.barred
+    ∙ (ap (λ z. cond z (cond (eqb v.address a) false (cond u.barred false true)) false) (unheld l a i (omega arith))
+    ∙ (sym (free_more l i a (omega arith)) ∙ ap (λ n. free a (older_than l n)) (add-one i)))))
   where
-    passes : (t u x : Bool) → cond t true u ≡ false → cond x (cond t false (cond u false true)) false ≡ x
-    passes true u x e = absurd (let z : ◌≡◌ {A = ℕ} 0 1 = cc in omega arith)
-    passes false true x e = absurd (let z : ◌≡◌ {A = ℕ} 0 1 = cc in omega arith)
-    passes false false true e = refl
-    passes false false false e = refl
+    go : (x t b : Bool) → not (x || (cond t true b || false)) ≡ cond (not x) (cond t false (cond b false true)) false
+    go true t b = refl
+    go false true b = refl
+    go false false true = refl
+    go false false false = refl
 
 ready-++ : (p l k : List Entry) → ready p (l ++ k) ≡ ready p l + ready (p ++ l) k
 ready-++ p [] k = ap (λ (z : List Entry). ready z k) (sym (append-nil p)) ∙ sym (zero-add (ready (p ++ []) k))
@@ -166,11 +184,9 @@ ready_more l i b h e =
     ap (ready []) (older_grows l i h) ∙ (ready-++ [] (older_than l i) (stored v ∷ fence f)
     ∙ ap (λ (z : ℕ). ready [] (older_than l i) + z) (ap (λ (z : ℕ). cond (free v.address (older_than l i)) 1 0 + z) (fence_ready (older_than l i ++ (stored v ∷ [])) f) ∙ (add-zero (cond (free v.address (older_than l i)) 1 0) ∙ ap (λ (c : Bool). cond c 1 0) (sym e))))
 
-pub ready_hit : (l : List Waiting) (i : ℕ) (b : Bool) → i < length l → b ≡ free (get_or l i blank).address (older_than l i) → b ≡ true → ready [] (older_than l (i + 1)) ≡ ready [] (older_than l i) + 1
-ready_hit l i b h e t = ready_more l i b h e ∙ ap (λ (c : Bool). ready [] (older_than l i) + cond c 1 0) t
-
-pub ready_miss : (l : List Waiting) (i : ℕ) (b : Bool) → i < length l → b ≡ free (get_or l i blank).address (older_than l i) → b ≡ false → ready [] (older_than l (i + 1)) ≡ ready [] (older_than l i)
-ready_miss l i b h e t = ready_more l i b h e ∙ (ap (λ (c : Bool). ready [] (older_than l i) + cond c 1 0) t ∙ add-zero (ready [] (older_than l i)))
+-- store number i can land
+abbrev pub lands : List Waiting → ℕ → Bool
+lands l i = free (get_or l i blank).address (older_than l i)
 
 -- the fence at the end holds no store
 pub ready_all : (l : List Waiting) (f : Bool) (i : ℕ) → length l ≤ i → ready [] (older_than l i) ≡ ready [] (line_of l f)
@@ -186,6 +202,45 @@ ready_all l f i h = ap (λ (z : List Waiting). ready [] (line_of z (get_or l i b
     ready_fenced g =
         ap (λ (z : List Entry). ready [] (tidy z)) (entries_fenced l g) ∙ (ap (ready []) (tidy-++ true (entries_of l false) (fence g)) ∙ (ready-++ [] (line_of l false) (tidy_from (idle true (entries_of l false)) (fence g))
         ∙ (ap (λ (z : ℕ). ready [] (line_of l false) + z) (ready_idle (idle true (entries_of l false)) g (line_of l false)) ∙ add-zero (ready [] (line_of l false)))))
+
+-- counting those that can land, and finding number k of them
+
+count_from : (l : List Waiting) (i m : ℕ) → i + m ≡ length l → ready [] (older_than l i) + count_by (lands l) (range_with_len i m) ≡ ready [] (older_than l (length l))
+count_from l i zero e = add-zero (ready [] (older_than l i)) ∙ ap (λ n. ready [] (older_than l n)) (sym (add-zero i) ∙ e)
+count_from l i (suc m) e = omega (arith, sum_by-cons (λ j. cond (lands l j) 1 0) i (range_with_len (i + 1) m), ready_more l i (lands l i) (omega arith) refl, count_from l (i + 1) m (omega arith))
+
+pub count_all : (l : List Waiting) (f : Bool) → count_by (lands l) (range_with_len 0 (length l)) ≡ ready [] (line_of l f)
+count_all l f =
+    let none : ready [] (older_than l 0) ≡ 0 = ap (ready []) (older_none l) in
+    omega (arith, none, count_from l 0 (length l) (zero-add (length l)), ready_all l f (length l) (omega arith))
+
+number_from : (l : List Waiting) (i m k : ℕ) → i + m ≡ length l → MatchOption (slice_get (filter (lands l) (range_with_len i m)) k) (ready [] (older_than l (length l)) ≤ ready [] (older_than l i) + k) (Numbered (ready [] (older_than l i) + k) l)
+number_from l i zero k e = let last : ready [] (older_than l i) ≡ ready [] (older_than l (length l)) = ap (λ n. ready [] (older_than l n)) (sym (add-zero i) ∙ e) in omega (arith, last)
+number_from l i (suc m) k e = go (λ j. number_from l (i + 1) m j (omega arith)) (lands l i) refl k
+  where
+    next : ready [] (older_than l (i + 1)) ≡ ready [] (older_than l i) + cond (lands l i) 1 0
+    next = ready_more l i (lands l i) (omega arith) refl
+
+    later : ((j : ℕ) → MatchOption (slice_get (filter (lands l) (range_with_len (i + 1) m)) j) (ready [] (older_than l (length l)) ≤ ready [] (older_than l (i + 1)) + j) (Numbered (ready [] (older_than l (i + 1)) + j) l)) → (j r : ℕ) → r ≡ ready [] (older_than l (i + 1)) + j → MatchOption (slice_get (filter (lands l) (range_with_len (i + 1) m)) j) (ready [] (older_than l (length l)) ≤ r) (Numbered r l)
+    later rest j r h = subst (λ n. MatchOption (slice_get (filter (lands l) (range_with_len (i + 1) m)) j) (ready [] (older_than l (length l)) ≤ n) (Numbered n l)) (sym h) (rest j)
+
+    go : ((j : ℕ) → MatchOption (slice_get (filter (lands l) (range_with_len (i + 1) m)) j) (ready [] (older_than l (length l)) ≤ ready [] (older_than l (i + 1)) + j) (Numbered (ready [] (older_than l (i + 1)) + j) l)) → (b : Bool) → lands l i ≡ b → (j : ℕ) → MatchOption (slice_get (filter (lands l) (range_with_len i (suc m))) j) (ready [] (older_than l (length l)) ≤ ready [] (older_than l i) + j) (Numbered (ready [] (older_than l i) + j) l)
+    go rest true t zero = rw t (record { within = omega arith; can = t; number = sym (add-zero (ready [] (older_than l i))) })
+    go rest true t (suc j) = rw t (later rest j (ready [] (older_than l i) + suc j) (let n : ready [] (older_than l (i + 1)) ≡ ready [] (older_than l i) + 1 = next ∙ ap (λ b. ready [] (older_than l i) + cond b 1 0) t in omega (arith, n)))
+    go rest false t j = rw t (later rest j (ready [] (older_than l i) + j) (let n : ready [] (older_than l (i + 1)) ≡ ready [] (older_than l i) + 0 = next ∙ ap (λ b. ready [] (older_than l i) + cond b 1 0) t in omega (arith, n)))
+
+numbered : (l : List Waiting) (k : ℕ) → MatchOption (slice_get (filter (lands l) (range_with_len 0 (length l))) k) (ready [] (line_of l true) ≤ k) (Numbered k l)
+numbered l k =
+    let none : ready [] (older_than l 0) ≡ 0 = ap (ready []) (older_none l) in
+    let all : ready [] (older_than l (length l)) ≡ ready [] (line_of l true) = ready_all l true (length l) (omega arith) in
+    let from : ready [] (older_than l 0) + k ≡ k = omega (arith, none) in
+    let o = slice_get (filter (lands l) (range_with_len 0 (length l))) k in
+    subst (λ n. MatchOption o (n ≤ k) (Numbered k l)) all
+    (subst (λ n. MatchOption o (ready [] (older_than l (length l)) ≤ n) (Numbered n l)) from (number_from l 0 (length l) k (zero-add (length l))))
+
+pub numbered_at : (l : List Waiting) (k : ℕ) (r : Option ℕ) → option_map {U = ℕ} (λ i. i) r ≡ slice_get (filter (lands l) (range_with_len 0 (length l))) k → MatchOption r (ready [] (line_of l true) ≤ k) (Numbered k l)
+numbered_at l k None e = subst (λ o. MatchOption o (ready [] (line_of l true) ≤ k) (Numbered k l)) (sym e) (numbered l k)
+numbered_at l k (Some i) e = subst (λ o. MatchOption o (ready [] (line_of l true) ≤ k) (Numbered k l)) (sym e) (numbered l k)
 
 -- taking out a store that can land
 
@@ -215,16 +270,16 @@ pub line_without : (a : ℕ) (p q : List Waiting) (b f : Bool) → free a (line_
 line_without a p q b f h =
     ap tidy (entries-++ p q f) ∙ (sym (unbarred a p b (entries_of q f) h) ∙ (sym (tidy_back true (entries_of p b) (entries_of q f)) ∙ sym (tidy_front true (entries_of p b) (tidy_from false (entries_of q f)))))
 
-pub taken_out : (l r : List Waiting) (f : Bool) (v : Waiting) (i k : ℕ) → Numbered k l i → Removed i l v r → TakenOut k (line_of l f) v.address v.word (line_of r f)
-taken_out l r f v i k n x =
-    let e : v ≡ get_or l i blank = removed_is i l r v blank n.within x in
+pub taken_out : (l : List Waiting) (f : Bool) (v : Waiting) (i k : ℕ) → Numbered k l i → v ≡ get_or l i v → TakenOut k (line_of l f) v.address v.word (line_of (remove l i) f)
+taken_out l f v i k n x =
+    let e : v ≡ get_or l i blank = x ∙ get_or_default l i v blank n.within in
     let older_is : line_of (take i l) v.barred ≡ older_than l i = ap (λ (u : Waiting). line_of (take i l) u.barred) e in
     let can : free v.address (line_of (take i l) v.barred) ≡ true = ap (free v.address) older_is ∙ (ap (λ (u : Waiting). free u.address (older_than l i)) e ∙ n.can) in
     record {
       older = line_of (take i l) v.barred;
-      younger = tidy_from false (entries_of (drop (i + 1) l) f);
-      waits = ap (λ (z : List Waiting). line_of z f) x.stood ∙ line_split (take i l) v (drop (i + 1) l) f;
+      younger = tidy_from false (entries_of (drop (suc i) l) f);
+      waits = ap (λ (z : List Waiting). line_of z f) (split_at l i v n.within ∙ ap (λ u. take i l ++ (u ∷ drop (suc i) l)) (sym x)) ∙ line_split (take i l) v (drop (suc i) l) f;
       can = can;
       number = ap (ready []) older_is ∙ n.number;
-      after = ap (λ (z : List Waiting). line_of z f) x.closes ∙ line_without v.address (take i l) (drop (i + 1) l) v.barred f can;
+      after = line_without v.address (take i l) (drop (suc i) l) v.barred f can;
     }

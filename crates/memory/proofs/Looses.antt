@@ -6,9 +6,8 @@ use Rattle.memory.specs.declared.Side.TheVariants.{Feeder, Drawer}
 use Rattle.memory.specs.declared.loose.Loose.{Loose}
 use Rattle.memory.specs.Meaning.{Entry, store, bar, Meaning, line, with_line, with_word, stores, joined, tidy, tidy_from, Call, Size, Look, Count, Store, Bar, Land, Drain, Rule, Made, Lands, Out, Landings, none, next, here}
 use Rattle.memory.specs.Owner.{SameWords}
-use Rattle.memory.specs.Table.{held}
 use Rattle.memory.specs.Line.{entries_of, free, ready, TakenOut}
-use Rattle.memory.specs.Loose.{loose_meaning, Picked, Oldest, Landed, nothing, one, Room, found, made, Stored, after_all, all_landed, drained, LooseCall}
+use Rattle.memory.specs.Loose.{loose_meaning, Becomes, Picked, Oldest, Landed, nothing, one, Room, found, made, Stored, after_all, all_landed, drained, LooseCall}
 use Rattle.memory.proofs.Tidy.{tidy_again, tidy_more}
 use Rattle.memory.proofs.Lines.{out_free}
 use Rattle.memory.proofs.Landing.{landings_on, landings_join, lands_fewer}
@@ -86,12 +85,12 @@ loose_rules (Land s k) m o t e = lands_rule s k m o t e
 loose_rules Drain m o t e = subst (λ (z : Meaning). Rule Drain m z) (sym e) (drains_rule m t, refl, refl)
 
 tidied : (x : Loose) → Tidy (loose_meaning x)
-tidied x Feeder = tidy_again true (entries_of (held x.feeder.waiting) x.feeder.fenced)
-tidied x Drawer = tidy_again true (entries_of (held x.drawer.waiting) x.drawer.fenced)
+tidied x Feeder = tidy_again true (entries_of x.lines.feeder.waiting.items x.lines.feeder.fenced)
+tidied x Drawer = tidy_again true (entries_of x.lines.drawer.waiting.items x.lines.drawer.fenced)
 
 -- a call that does exactly this keeps the rules
-pub loose_made : (k : Call) (x y : Loose) → LooseCall k (loose_meaning x) (loose_meaning y) → SameWords x.words y.words → Made loose_meaning (λ j u v. LooseCall j (loose_meaning u) (loose_meaning v) × SameWords u.words v.words) k x y
-loose_made k x y h w = record { call = (h, w); rule = loose_rules k (loose_meaning x) (loose_meaning y) (tidied x) h }
+pub loose_made : (k : Call) (x y : Loose) → Becomes (LooseCall k) x y → Made loose_meaning (λ j u v. LooseCall j (loose_meaning u) (loose_meaning v) × SameWords u.words v.words) k x y
+loose_made k x y h = record { call = (h.means, h.owner); rule = loose_rules k (loose_meaning x) (loose_meaning y) (tidied x) h.means }
 
 -- landing the oldest, again and again
 

@@ -1,19 +1,15 @@
 -- What the store buffer does above a memory that it knows by its calls alone.
-use Rattle.std.specs.Prelude.{◌≡◌, ℕ, suc, ◌+◌, ◌-◌, ◌^◌, ◌<◌, ◌≤◌, min, max, List, [], ◌∷◌, ◌++◌, length, Some, None}
+use Rattle.std.specs.Prelude.{◌≡◌, ℕ, suc, ◌+◌, ◌-◌, ◌^◌, ◌<◌, ◌≤◌, min, List, [], ◌∷◌, ◌++◌, length, Some, None}
 use Rattle.memory.specs.declared.Side.{Side}
 use Rattle.memory.specs.declared.Side.TheVariants.{Feeder, Drawer}
 use Rattle.memory.specs.declared.entry.Entry.{Entry as Kept}
 use Rattle.memory.specs.declared.buffer.Buffer.{Buffer}
 use Rattle.memory.specs.declared.Memory.{Ghosts}
 use Rattle.memory.specs.Meaning.{Meaning, stores, tidy, Made, Call, Size, Look, Count, Store, Bar, Land, Drain}
-use Rattle.memory.specs.Table.{held}
+use Rattle.memory.specs.Sides.{by_side}
 use Rattle.memory.specs.Entries.{own, newest, through}
 
--- how many entries of a side a buffer keeps: a buffer is made with a depth of 1 to 16, which this leaves as it is
-abbrev pub limit : ℕ → ℕ
-limit d = max (min d 16) 1
-
--- the memory below, and the entries of each side, oldest first
+-- the memory below, how many entries of a side are kept, and those of each side, oldest first
 pub record Parts (X : Type 0) : Type 0 where
   pub below : X
   pub depth : ℕ
@@ -21,11 +17,7 @@ pub record Parts (X : Type 0) : Type 0 where
   pub drawer : List Kept
 
 abbrev pub parts : {X : Type 0} → Buffer X → Parts X
-parts x = record { below = x.below; depth = limit x.depth; feeder = held x.feeder; drawer = held x.drawer }
-
-abbrev pub by_side : {A : Type 0} → Side → A → A → A
-by_side Feeder f d = f
-by_side Drawer f d = d
+parts x = record { below = x.below; depth = x.depth; feeder = x.kept.feeder.items; drawer = x.kept.drawer.items }
 
 abbrev pub mine : {X : Type 0} → Side → Parts X → List Kept
 mine s b = by_side s b.feeder b.drawer
@@ -142,7 +134,7 @@ module _ {X : Type 0} (G : Ghosts X) where
 -- a new buffer keeps nothing and has the depth asked for
 pub record Opened {X : Type 0} (below : X) (depth : ℕ) (b : Buffer X) : Type 0 where
   pub fits : (1 ≤ depth) × (depth ≤ 16)
-  pub empty : parts b ≡ record { below = below; depth = limit depth; feeder = []; drawer = [] }
+  pub empty : parts b ≡ record { below = below; depth = depth; feeder = []; drawer = [] }
 
 -- refused for its depth, and the memory is handed back
 pub record Refused {X : Type 0} (below : X) (depth named : ℕ) (back : X) : Type 0 where

@@ -9,6 +9,11 @@ own n [] = []
 own n (Kept.Bar ∷ l) = bar ∷ own n l
 own n (Kept.Store a w ∷ l) = cond (nat_lt a n) (store a w ∷ own n l) (own n l)
 
+-- the word that an entry stores to a, if it is a store to it
+abbrev pub word_to : ℕ → Kept → Option ℕ
+word_to a Kept.Bar = None
+word_to a (Kept.Store b w) = cond (b == a) (Some w) None
+
 -- what a reader that has found o among older entries finds once it has seen this one too
 abbrev pub newer : ℕ → Kept → Option ℕ → Option ℕ
 newer a Kept.Bar o = o

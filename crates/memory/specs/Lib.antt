@@ -2,7 +2,7 @@ pub mod Meaning
 pub mod Refusals
 pub mod Owner
 pub mod Prompt
-pub mod Table
+pub mod Sides
 pub mod Line
 pub mod Loose
 pub mod Entries

@@ -1,9 +1,8 @@
--- The line that a table of waiting stores stands for, and which of its stores can land.
+-- The line that a list of waiting stores stands for, and which of its stores can land.
 use Rattle.std.specs.Prelude.{◌≡◌, ℕ, ◌+◌, ◌<◌, Bool, true, false, cond, List, [], ◌∷◌, ◌++◌, length, take, ◌==◌, slice_index_or}
 use Rattle.memory.specs.declared.line.Waiting.{Waiting}
 use Rattle.memory.specs.declared.line.Line.{Line}
 use Rattle.memory.specs.Meaning.{Entry, store, bar, tidy}
-use Rattle.memory.specs.Table.{held}
 
 abbrev pub fence : Bool → List Entry
 fence b = cond b (bar ∷ []) []
@@ -17,7 +16,7 @@ abbrev pub line_of : List Waiting → Bool → List Entry
 line_of l f = tidy (entries_of l f)
 
 abbrev pub line_in : Line → List Entry
-line_in l = line_of (held l.waiting) l.fenced
+line_in l = line_of l.waiting.items l.fenced
 
 -- what stands where nothing waits
 abbrev pub blank : Waiting

@@ -4,10 +4,16 @@ use Rattle.memory.specs.declared.Side.{Side}
 use Rattle.memory.specs.declared.Side.TheVariants.{Feeder, Drawer}
 use Rattle.memory.specs.declared.loose.Loose.{Loose}
 use Rattle.memory.specs.Meaning.{Entry, store, bar, Meaning, line, with_line, with_word, look, stores, joined, tidy, Call, Size, Look, Count, Store, Bar, Land, Drain}
+use Rattle.memory.specs.Owner.{SameWords}
 use Rattle.memory.specs.Line.{line_in, ready, TakenOut}
 
 abbrev pub loose_meaning : Loose → Meaning
-loose_meaning x = record { landed = x.words.now; feeder = line_in x.feeder; drawer = line_in x.drawer }
+loose_meaning x = record { landed = x.words.now; feeder = line_in x.lines.feeder; drawer = line_in x.lines.drawer }
+
+-- R says what became of the meaning, and the words are still those of one owner
+pub record Becomes (R : Meaning → Meaning → Type 0) (x y : Loose) : Type 0 where
+  pub means : R (loose_meaning x) (loose_meaning y)
+  pub owner : SameWords x.words y.words
 
 -- of the stores of side s that can land, counted from 0 with the oldest first, number k lands
 pub record Picked (s : Side) (k : ℕ) (m n : Meaning) : Type 0 where

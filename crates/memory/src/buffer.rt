@@ -1,25 +1,25 @@
 //! The store buffer above any memory.
-ghost use Rattle.std.specs.Prelude.{◌≡◌, ℕ, suc, ◌<◌, ◌≤◌, [], ◌∷◌, ◌++◌, length, MatchResult};
+ghost use Rattle.std.specs.Prelude.{◌≡◌, ◌<◌, ◌≤◌, [], length, ℕ, MatchBool, MatchResult};
 ghost use Rattle.memory.specs.Refusals.{number_of, depth_out_of_range};
-ghost use Rattle.memory.specs.Entries.{own, newest, through};
-ghost use Rattle.memory.specs.Buffer.{limit, parts, mine, with_mine, with_below, Sent, SendsOne, Sends, Room, Joins, Counts, Through, LandsBelow, DrainsBelow, BufferCall, above, Opened, Refused};
 
-use crate::entry::{Entry, count_stores, find_newest, through_store};
-use crate::table::{PLACES, Table};
-use crate::{Memory, NoAddress, Side};
-use std::fmt;
+use crate::entry::{Entry, count_stores, find_newest};
+use crate::sides::Sides;
+use crate::{Memory, NoAddress, PLACES, Side};
+use arrayvec::ArrayVec;
+use thiserror::Error;
 
 /// Keeps the last stores and bars of each side before they go to the memory below.
 #[derive(Drop)]
-pub struct Buffer<M: Memory> {
+pub struct Buffer<M> {
     below: M,
     depth: usize,
-    feeder: Table<Entry>,
-    drawer: Table<Entry>,
+    kept: Sides<ArrayVec<Entry, PLACES>>,
+    ghost fits: { (1 ≤ depth) × (depth ≤ 16) },
 }
 
 /// Refusal of a buffer whose depth is not 1 to 16; the memory is handed back.
-#[derive(Drop)]
+#[derive(Drop, Error)]
+#[error("a buffer has a depth of 1 to 16, not {depth}")]
 pub struct BadDepth<M> {
     pub depth: usize,
     pub memory: M,
@@ -34,34 +34,20 @@ impl<M> BadDepth<M> {
     }
 }
 
-impl<M> fmt::Display for BadDepth<M> {
-    fn fmt<W: fmt::Write>(&self, f: &mut fmt::Formatter<W>) -> fmt::Result {
-        let depth = self.depth;
-        write!(f, "a buffer has a depth of 1 to 16, not {depth}")
-    }
-}
-
-// one entry goes below
-fn send<M: Memory>(below: &mut M, side: Side, entry: Entry)
-    ensures { Sent M.Memory side entry below.old below.new }
-{
-    match entry {
-        Entry::Store { address, word } => {
-            let _ = below.store(side, address, word);
-        }
-        Entry::Bar => below.bar(side),
-    }
-}
-
 impl<M: Memory> Buffer<M> {
+    ghost use Rattle.memory.specs.Buffer.{parts, mine, Sent, SendsOne, Sends, Room, Joins, Counts, Through, LandsBelow, DrainsBelow, Opened, Refused};
+
     pub(crate) fn empty(below: M, depth: usize) -> Buffer<M>
-        ensures { parts result ≡ record { below = below; depth = limit depth; feeder = []; drawer = [] } }
+        requires { (1 ≤ depth) × (depth ≤ 16) }
+        ensures { parts result ≡ record { below = below; depth = depth; feeder = []; drawer = [] } }
     {
         Buffer {
             below,
             depth,
-            feeder: Table::new(Entry::Bar),
-            drawer: Table::new(Entry::Bar),
+            kept: Sides {
+                feeder: ArrayVec::new(),
+                drawer: ArrayVec::new(),
+            },
         }
     }
 
@@ -69,7 +55,7 @@ impl<M: Memory> Buffer<M> {
     pub fn new(below: M, depth: usize) -> Result<Buffer<M>, BadDepth<M>>
         ensures { MatchResult result (λ b. Opened below depth b) (λ e. Refused below depth e.depth e.memory) }
     {
-        if depth < 1 || depth > PLACES {
+        if !(1..=PLACES).contains(&depth) {
             return Err(BadDepth {
                 depth,
                 memory: below,
@@ -95,38 +81,21 @@ impl<M: Memory> Buffer<M> {
 
     /// The entries of a side that have not gone below, oldest first.
     pub fn entries(&self, side: Side) -> &[Entry]
-        ensures { result.now ≡ mine side (parts self.now) }
+        ensures kept { result.now ≡ mine side (parts self.now) }
+        ensures few { length result.now ≤ 16 }
     {
-        match side {
-            Side::Feeder => self.feeder.entries(),
-            Side::Drawer => self.drawer.entries(),
-        }
+        self.kept.of(side).as_slice()
     }
 
-    // how many entries of a side it keeps
-    fn limit(&self) -> usize
-        ensures { result ≡ (parts self.now).depth }
+    // one entry goes below
+    fn send(below: &mut M, side: Side, entry: Entry)
+        ensures { Sent M.Memory side entry below.old below.new }
     {
-        self.depth.min(PLACES).max(1)
-    }
-
-    fn count_kept(&self, side: Side) -> usize
-        ensures count { result ≡ length (mine side (parts self.now)) }
-        ensures few { result ≤ 16 }
-    {
-        match side {
-            Side::Feeder => self.feeder.count(),
-            Side::Drawer => self.drawer.count(),
-        }
-    }
-
-    fn push(&mut self, side: Side, entry: Entry)
-        requires { length (mine side (parts self.old)) < 16 }
-        ensures { parts self.new ≡ with_mine side (mine side (parts self.old) ++ (entry ∷ [])) (parts self.old) }
-    {
-        match side {
-            Side::Feeder => self.feeder.push(entry),
-            Side::Drawer => self.drawer.push(entry),
+        match entry {
+            Entry::Store { address, word } => {
+                let _ = below.store(side, address, word);
+            }
+            Entry::Bar => below.bar(side),
         }
     }
 
@@ -134,23 +103,15 @@ impl<M: Memory> Buffer<M> {
         requires { 0 < length (mine side (parts self.old)) }
         ensures { SendsOne M.Memory side (parts self.old) (parts self.new) }
     {
-        match side {
-            Side::Feeder => {
-                let oldest = self.feeder.remove(0);
-                send(&mut self.below, side, oldest);
-            }
-            Side::Drawer => {
-                let oldest = self.drawer.remove(0);
-                send(&mut self.below, side, oldest);
-            }
-        }
+        let oldest = self.kept.of_mut(side).remove(0);
+        Self::send(&mut self.below, side, oldest);
     }
 
     fn send_many(&mut self, side: Side, n: usize)
         requires { n ≤ length (mine side (parts self.old)) }
         ensures { Sends M.Memory side (parts self.old) n (parts self.new) }
     {
-        for _i in 0..n {
+        for _ in 0..n {
             self.send_one(side);
         }
     }
@@ -160,7 +121,7 @@ impl<M: Memory> Buffer<M> {
         ensures means { Room M.Memory side (parts self.old) (parts self.new) }
         ensures free { length (mine side (parts self.new)) < 16 }
     {
-        if self.count_kept(side) >= self.limit() {
+        if self.entries(side).len() >= self.depth {
             self.send_one(side);
         }
     }
@@ -169,7 +130,7 @@ impl<M: Memory> Buffer<M> {
         ensures { Joins M.Memory side entry (parts self.old) (parts self.new) }
     {
         self.make_room(side);
-        self.push(side, entry);
+        self.kept.of_mut(side).push(entry);
     }
 
     fn count_all(&mut self, side: Side) -> usize
@@ -181,24 +142,28 @@ impl<M: Memory> Buffer<M> {
         waiting.saturating_add(kept)
     }
 
-    // sends the oldest entries below through the first store, and says how many
-    fn send_through(&mut self, side: Side) -> usize
-        ensures { Through M.Memory side result (parts self.old) (parts self.new) }
+    // sends the oldest entries below through the first store, and says whether there is one
+    fn send_through(&mut self, side: Side) -> bool
+        ensures { MatchBool result
+            ((t : ℕ) × (0 < t) × Through M.Memory side t (parts self.old) (parts self.new))
+            (Through M.Memory side 0 (parts self.old) (parts self.new)) }
     {
         let size = self.below.size();
-        let n = through_store(self.entries(side), size);
-        self.send_many(side, n);
-        n
+        let Some(first) = self
+            .entries(side)
+            .iter()
+            .position(|kept| kept.stores_below(size))
+        else {
+            return false;
+        };
+        self.send_many(side, first + 1);
+        true
     }
 
     fn land_below(&mut self, side: Side, pick: usize)
         ensures { LandsBelow M.Memory side pick (parts self.old) (parts self.new) }
     {
-        if self.below.count(side) > 0 {
-            self.below.land(side, pick);
-            return;
-        }
-        if self.send_through(side) > 0 {
+        if self.below.count(side) > 0 || self.send_through(side) {
             self.below.land(side, pick);
         }
     }
@@ -206,7 +171,7 @@ impl<M: Memory> Buffer<M> {
     fn send_all(&mut self, side: Side)
         ensures { Sends M.Memory side (parts self.old) (length (mine side (parts self.old))) (parts self.new) }
     {
-        let n = self.count_kept(side);
+        let n = self.entries(side).len();
         self.send_many(side, n);
     }
 
@@ -220,6 +185,8 @@ impl<M: Memory> Buffer<M> {
 }
 
 impl<M: Memory> Memory for Buffer<M> {
+    ghost use Rattle.memory.specs.Buffer.{parts, BufferCall, above};
+
     ghost meaning = { λ x. above M.Memory (parts x) };
 
     ghost calls = { λ k x y. BufferCall M.Memory k (parts x) (parts y) };
@@ -229,13 +196,11 @@ impl<M: Memory> Memory for Buffer<M> {
     }
 
     fn look(&mut self, side: Side, address: usize) -> Result<u64, NoAddress> {
-        if address >= self.below.size() {
-            return Err(NoAddress { address });
+        NoAddress::check(address, self.below.size())?;
+        match find_newest(self.entries(side), address) {
+            Some(word) => Ok(word),
+            None => self.below.look(side, address),
         }
-        if let Some(word) = find_newest(self.entries(side), address) {
-            return Ok(word);
-        }
-        self.below.look(side, address)
     }
 
     fn count(&mut self, side: Side) -> usize {
@@ -243,9 +208,7 @@ impl<M: Memory> Memory for Buffer<M> {
     }
 
     fn store(&mut self, side: Side, address: usize, word: u64) -> Result<(), NoAddress> {
-        if address >= self.below.size() {
-            return Err(NoAddress { address });
-        }
+        NoAddress::check(address, self.below.size())?;
         self.join(side, Entry::Store { address, word });
         Ok(())
     }

@@ -1,12 +1,12 @@
 //! Memories whose stores wait: what a memory means, the calls that it takes, and three memories that keep its rules.
 #![tactic(auto)]
 
-ghost use Rattle.std.specs.Prelude.{◌≡◌, MatchResult};
+ghost use Rattle.std.specs.Prelude.{◌≡◌, ◌<◌, ◌≤◌, MatchResult};
 ghost use Rattle.memory.specs.declared.Side.{Side};
 ghost use Rattle.memory.specs.Meaning.{Meaning, Call, Size, Look, Count, Store, Bar, Land, Drain, Made, NoPlace};
 ghost use Rattle.memory.specs.Refusals.{number_of, no_such_address};
 
-use std::fmt;
+use thiserror::Error;
 
 mod buffer;
 mod entry;
@@ -15,7 +15,7 @@ mod line;
 mod loose;
 mod pile;
 mod prompt;
-mod table;
+mod sides;
 
 pub use buffer::{BadDepth, Buffer};
 pub use entry::Entry;
@@ -23,6 +23,9 @@ pub use laws::{laws_stand, lend_and_read};
 pub use line::{Waiting, Waits};
 pub use loose::Loose;
 pub use prompt::Prompt;
+
+// how many stores or entries of a side a memory keeps at most
+const PLACES: usize = 16;
 
 /// The two ends of a lane: the feeder puts items in, the drawer takes them out.
 #[derive(Clone, Copy, Debug, PartialEq, Eq)]
@@ -32,24 +35,29 @@ pub enum Side {
 }
 
 /// Refusal of a look or a store: the memory has no such address.
-#[derive(Clone, Copy, Debug, PartialEq, Eq)]
+#[derive(Clone, Copy, Debug, PartialEq, Eq, Error)]
+#[error("the memory has no address {address}")]
 pub struct NoAddress {
     pub address: usize,
 }
 
 impl NoAddress {
+    // refuses an address that a memory of this size lacks
+    fn check(address: usize, size: usize) -> Result<(), NoAddress>
+        ensures { MatchResult result (λ _. address < size) (λ e. (size ≤ address) × (e.address ≡ address)) }
+    {
+        if address < size {
+            Ok(())
+        } else {
+            Err(NoAddress { address })
+        }
+    }
+
     /// The number by which a baker knows this refusal.
     pub fn number(&self) -> u8
         ensures { result ≡ number_of no_such_address }
     {
         6
-    }
-}
-
-impl fmt::Display for NoAddress {
-    fn fmt<W: fmt::Write>(&self, f: &mut fmt::Formatter<W>) -> fmt::Result {
-        let address = self.address;
-        write!(f, "the memory has no address {address}")
     }
 }
 

@@ -4,10 +4,11 @@ ghost use Rattle.memory.specs.Meaning.{store, bar, tidy, words_to, last_or, stor
 ghost use Rattle.memory.specs.Line.{line_of, line_in, older_than, free, ready, blank, holds_back, Numbered, TakenOut};
 ghost use Rattle.std.specs.Option.{unwrap_or};
 
-use crate::table::Table;
+use crate::PLACES;
+use arrayvec::ArrayVec;
 
 /// A store that waits; `barred` says that a bar stands before it.
-#[derive(Clone, Copy, Debug, PartialEq, Eq)]
+#[derive(Clone, Copy, Debug, Default, PartialEq, Eq)]
 pub struct Waiting {
     pub address: usize,
     pub word: u64,
@@ -22,27 +23,26 @@ pub struct Waits<'a> {
 }
 
 // a bar takes no place: it is a mark on the store behind it, or at the end
-#[derive(Clone, Copy)]
+#[derive(Drop)]
 pub(crate) struct Line {
-    waiting: Table<Waiting>,
+    waiting: ArrayVec<Waiting, PLACES>,
     fenced: bool,
 }
 
+// the word of the youngest store to the address
 fn youngest(waiting: &[Waiting], address: usize) -> Option<u64>
     ensures { (f : Bool) (w : ℕ) → unwrap_or result w ≡ last_or (words_to address (line_of waiting.now f)) w }
 {
-    let mut found = None;
-    for i in 0..waiting.len() {
-        if waiting[i].address == address {
-            found = Some(waiting[i].word);
-        }
-    }
-    found
+    waiting
+        .iter()
+        .rev()
+        .find(|store| store.address == address)
+        .map(|store| store.word)
 }
 
 // whether a store, with the store that follows it, holds back a later one to the address
-fn holds_back(older: Waiting, follower: Waiting, address: usize) -> bool
-    ensures { result ≡ holds_back older follower address }
+fn holds_back(older: &Waiting, follower: &Waiting, address: usize) -> bool
+    ensures { result ≡ holds_back older.now follower.now address }
 {
     older.address == address || follower.barred
 }
@@ -53,65 +53,37 @@ fn can_land(waiting: &[Waiting], at: usize) -> bool
     ensures { result ≡ free (slice_index_or waiting.now at blank).address (older_than waiting.now at) }
 {
     let address = waiting[at].address;
-    let mut clear = true;
-    for j in 0..at {
-        if holds_back(waiting[j], waiting[j + 1], address) {
-            clear = false;
-        }
-    }
-    clear
+    let followers = &waiting[1..];
+    !waiting[..at]
+        .iter()
+        .zip(followers)
+        .any(|(older, follower)| holds_back(older, follower, address))
 }
 
 // how many stores can land
 fn count_ready(waiting: &[Waiting]) -> usize
     ensures { (f : Bool) → result ≡ ready [] (line_of waiting.now f) }
 {
-    let mut ready = 0;
-    for i in 0..waiting.len() {
-        if can_land(waiting, i) {
-            ready += 1;
-        }
-    }
-    ready
+    (0..waiting.len())
+        .filter(|at| can_land(waiting, *at))
+        .count()
 }
 
 // the place of number `k` of the stores that can land
-fn place_of(waiting: &[Waiting], k: usize) -> usize
-    requires { k < ready [] (line_of waiting.now true) }
-    ensures { Numbered k waiting.now result }
+fn place_of(waiting: &[Waiting], k: usize) -> Option<usize>
+    ensures { MatchOption result (ready [] (line_of waiting.now true) ≤ k) (Numbered k waiting.now) }
 {
-    let mut ready = 0;
-    for i in 0..waiting.len() {
-        if can_land(waiting, i) {
-            if ready == k {
-                return i;
-            }
-            ready += 1;
-        }
-    }
-    unreachable()
-}
-
-fn reduce(pick: usize, ready: usize) -> usize
-    requires { 0 < ready }
-    ensures number { result ≡ pick % ready }
-    ensures within { result < ready }
-{
-    let number = pick % ready;
-    number
+    (0..waiting.len())
+        .filter(|at| can_land(waiting, *at))
+        .nth(k)
 }
 
 impl Line {
     pub(crate) fn new() -> Line
         ensures { line_in result ≡ [] }
     {
-        let none = Waiting {
-            address: 0,
-            word: 0,
-            barred: false,
-        };
         Line {
-            waiting: Table::new(none),
+            waiting: ArrayVec::new(),
             fenced: false,
         }
     }
@@ -121,14 +93,14 @@ impl Line {
         ensures count { result ≡ stores (line_in self.now) }
         ensures few { result ≤ 16 }
     {
-        self.waiting.count()
+        self.waiting.len()
     }
 
     pub(crate) fn waiting(&self) -> Waits<'_>
         ensures { line_of result.stores.now result.fenced ≡ line_in self.now }
     {
         Waits {
-            stores: self.waiting.entries(),
+            stores: self.waiting.as_slice(),
             fenced: self.fenced,
         }
     }
@@ -136,7 +108,7 @@ impl Line {
     pub(crate) fn look(&self, address: usize) -> Option<u64>
         ensures { (w : ℕ) → unwrap_or result w ≡ last_or (words_to address (line_in self.now)) w }
     {
-        youngest(self.waiting.entries(), address)
+        youngest(self.waiting.as_slice(), address)
     }
 
     pub(crate) fn store(&mut self, address: usize, word: u64)
@@ -163,11 +135,12 @@ impl Line {
             ((ready [] (line_in self.old) ≡ 0) × (line_in self.new ≡ line_in self.old))
             (λ w. (0 < ready [] (line_in self.old)) × TakenOut (pick % ready [] (line_in self.old)) (line_in self.old) w.address w.word (line_in self.new)) }
     {
-        let ready = count_ready(self.waiting.entries());
+        let waiting = self.waiting.as_slice();
+        let ready = count_ready(waiting);
         if ready == 0 {
             return None;
         }
-        let at = place_of(self.waiting.entries(), reduce(pick, ready));
+        let at = place_of(waiting, pick % ready)?;
         Some(self.waiting.remove(at))
     }
 }

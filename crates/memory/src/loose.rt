@@ -1,22 +1,20 @@
 //! The loose memory: up to sixteen stores of each side wait.
-ghost use Rattle.std.specs.Prelude.{◌≡◌, ℕ, ◌+◌, ◌<◌, ◌≤◌, MatchOption};
-ghost use Rattle.memory.specs.Meaning.{line, with_word, last_or, words_to, stores, joined, store, bar};
+ghost use Rattle.std.specs.Prelude.{◌≡◌, ◌+◌, ◌<◌, ◌≤◌};
+ghost use Rattle.memory.specs.Meaning.{line, with_word, stores};
 ghost use Rattle.memory.specs.Owner.{SameWords};
 ghost use Rattle.memory.specs.Prompt.{quiet};
-ghost use Rattle.memory.specs.Loose.{loose_meaning, Idle, Taken, Landed, Oldest, Room, Stored, all_landed, drained, LooseCall};
+ghost use Rattle.memory.specs.Loose.{loose_meaning, Becomes, Landed, Oldest, Room, Stored, all_landed, drained, LooseCall};
 ghost use Rattle.memory.specs.Line.{line_of};
-ghost use Rattle.std.specs.Option.{unwrap_or};
 
 use crate::line::{Line, Waiting, Waits};
-use crate::table::PLACES;
-use crate::{Memory, NoAddress, Side};
+use crate::sides::Sides;
+use crate::{Memory, NoAddress, PLACES, Side};
 
 /// Up to sixteen stores of each side wait, over words that their owner lends.
 #[derive(Drop)]
 pub struct Loose<'a> {
     words: &'a mut [u64],
-    feeder: Line,
-    drawer: Line,
+    lines: Sides<Line>,
 }
 
 impl<'a> Loose<'a> {
@@ -27,11 +25,14 @@ impl<'a> Loose<'a> {
     {
         Loose {
             words,
-            feeder: Line::new(),
-            drawer: Line::new(),
+            lines: Sides {
+                feeder: Line::new(),
+                drawer: Line::new(),
+            },
         }
     }
 
+    // both memories hand out their words by a line each, which a shared holder of the words would only pass on
     /// The words, as they landed.
     pub fn words(&self) -> &[u64]
         ensures { result.now ≡ self.now.words.now }
@@ -51,10 +52,7 @@ impl<'a> Loose<'a> {
     pub fn waiting(&self, side: Side) -> Waits<'_>
         ensures { line_of result.stores.now result.fenced ≡ line side (loose_meaning self.now) }
     {
-        match side {
-            Side::Feeder => self.feeder.waiting(),
-            Side::Drawer => self.drawer.waiting(),
-        }
+        self.lines.of(side).waiting()
     }
 
     // how many stores of the side wait
@@ -62,87 +60,39 @@ impl<'a> Loose<'a> {
         ensures count { result ≡ stores (line side (loose_meaning self.now)) }
         ensures few { result ≤ 16 }
     {
-        match side {
-            Side::Feeder => self.feeder.count(),
-            Side::Drawer => self.drawer.count(),
-        }
-    }
-
-    // the word of the side's youngest waiting store to the address
-    fn seen(&self, side: Side, address: usize) -> Option<u64>
-        ensures { (w : ℕ) → unwrap_or result w ≡ last_or (words_to address (line side (loose_meaning self.now))) w }
-    {
-        match side {
-            Side::Feeder => self.feeder.look(address),
-            Side::Drawer => self.drawer.look(address),
-        }
-    }
-
-    fn join(&mut self, side: Side, address: usize, word: u64)
-        requires { stores (line side (loose_meaning self.old)) < 16 }
-        ensures means { loose_meaning self.new ≡ joined side (store address word) (loose_meaning self.old) }
-        ensures owner { SameWords self.old.words self.new.words }
-    {
-        match side {
-            Side::Feeder => self.feeder.store(address, word),
-            Side::Drawer => self.drawer.store(address, word),
-        }
-    }
-
-    fn fence(&mut self, side: Side)
-        ensures means { loose_meaning self.new ≡ joined side bar (loose_meaning self.old) }
-        ensures owner { SameWords self.old.words self.new.words }
-    {
-        match side {
-            Side::Feeder => self.feeder.bar(),
-            Side::Drawer => self.drawer.bar(),
-        }
-    }
-
-    // takes number `pick`, modulo their count, of the side's stores that can land out of its line
-    fn take(&mut self, side: Side, pick: usize) -> Option<Waiting>
-        ensures taken { MatchOption result (Idle side (loose_meaning self.old) (loose_meaning self.new)) (λ w. Taken side pick w.address w.word (loose_meaning self.old) (loose_meaning self.new)) }
-        ensures owner { SameWords self.old.words self.new.words }
-    {
-        match side {
-            Side::Feeder => self.feeder.pick(pick),
-            Side::Drawer => self.drawer.pick(pick),
-        }
+        self.lines.of(side).count()
     }
 
     // makes the store's word the landed one; no store to an address beyond the last joins a line, so none is passed over here
     fn write(&mut self, store: Waiting)
-        ensures means { loose_meaning self.new ≡ with_word store.address store.word (loose_meaning self.old) }
-        ensures owner { SameWords self.old.words self.new.words }
+        ensures { Becomes (λ m n. n ≡ with_word store.address store.word m) self.old self.new }
     {
+        // not `get_mut`: a write through what it lends of `words` is not known of `self`
         if store.address < self.words.len() {
             self.words[store.address] = store.word;
         }
     }
 
     fn land_one(&mut self, side: Side, pick: usize)
-        ensures means { Landed side pick (loose_meaning self.old) (loose_meaning self.new) }
-        ensures owner { SameWords self.old.words self.new.words }
+        ensures { Becomes (Landed side pick) self.old self.new }
     {
-        if let Some(store) = self.take(side, pick) {
+        if let Some(store) = self.lines.of_mut(side).pick(pick) {
             self.write(store);
         }
     }
 
     fn land_oldest(&mut self, side: Side)
         requires { 0 < stores (line side (loose_meaning self.old)) }
-        ensures means { Oldest side (loose_meaning self.old) (loose_meaning self.new) }
+        ensures lands { Becomes (Oldest side) self.old self.new }
         ensures fewer { stores (line side (loose_meaning self.new)) + 1 ≡ stores (line side (loose_meaning self.old)) }
-        ensures owner { SameWords self.old.words self.new.words }
     {
         self.land_one(side, 0);
     }
 
     // a store that finds sixteen of its side waiting first lands the oldest
     fn make_room(&mut self, side: Side)
-        ensures means { Room side (loose_meaning self.old) (loose_meaning self.new) }
+        ensures makes { Becomes (Room side) self.old self.new }
         ensures free { stores (line side (loose_meaning self.new)) < 16 }
-        ensures owner { SameWords self.old.words self.new.words }
     {
         if self.waits(side) == PLACES {
             self.land_oldest(side);
@@ -150,17 +100,15 @@ impl<'a> Loose<'a> {
     }
 
     fn accept(&mut self, side: Side, address: usize, word: u64)
-        ensures means { Stored side address word (loose_meaning self.old) (loose_meaning self.new) }
-        ensures owner { SameWords self.old.words self.new.words }
+        ensures { Becomes (Stored side address word) self.old self.new }
     {
         self.make_room(side);
-        self.join(side, address, word);
+        self.lines.of_mut(side).store(address, word);
     }
 
     // lands all stores of the side, oldest first
     fn land_all(&mut self, side: Side)
-        ensures means { loose_meaning self.new ≡ all_landed side (loose_meaning self.old) }
-        ensures owner { SameWords self.old.words self.new.words }
+        ensures { Becomes (λ m n. n ≡ all_landed side m) self.old self.new }
     {
         while self.waits(side) > 0 {
             self.land_oldest(side);
@@ -168,8 +116,7 @@ impl<'a> Loose<'a> {
     }
 
     fn land_both(&mut self)
-        ensures means { loose_meaning self.new ≡ drained (loose_meaning self.old) }
-        ensures owner { SameWords self.old.words self.new.words }
+        ensures { Becomes (λ m n. n ≡ drained m) self.old self.new }
     {
         self.land_all(Side::Feeder);
         self.land_all(Side::Drawer);
@@ -186,13 +133,13 @@ impl Memory for Loose<'_> {
     }
 
     fn look(&mut self, side: Side, address: usize) -> Result<u64, NoAddress> {
-        if address >= self.words.len() {
-            return Err(NoAddress { address });
-        }
-        match self.seen(side, address) {
-            Some(word) => Ok(word),
-            None => Ok(self.words[address]),
-        }
+        NoAddress::check(address, self.words.len())?;
+        Ok(
+            self.lines
+                .of(side)
+                .look(address)
+                .unwrap_or(self.words[address]),
+        )
     }
 
     fn count(&mut self, side: Side) -> usize {
@@ -200,15 +147,13 @@ impl Memory for Loose<'_> {
     }
 
     fn store(&mut self, side: Side, address: usize, word: u64) -> Result<(), NoAddress> {
-        if address >= self.words.len() {
-            return Err(NoAddress { address });
-        }
+        NoAddress::check(address, self.words.len())?;
         self.accept(side, address, word);
         Ok(())
     }
 
     fn bar(&mut self, side: Side) {
-        self.fence(side);
+        self.lines.of_mut(side).bar();
     }
 
     fn land(&mut self, side: Side, pick: usize) {

@@ -54,9 +54,7 @@ impl Memory for Prompt<'_> {
     }
 
     fn look(&mut self, _side: Side, address: usize) -> Result<u64, NoAddress> {
-        if address >= self.words.len() {
-            return Err(NoAddress { address });
-        }
+        NoAddress::check(address, self.words.len())?;
         Ok(self.words[address])
     }
 
@@ -65,9 +63,7 @@ impl Memory for Prompt<'_> {
     }
 
     fn store(&mut self, _side: Side, address: usize, word: u64) -> Result<(), NoAddress> {
-        if address >= self.words.len() {
-            return Err(NoAddress { address });
-        }
+        NoAddress::check(address, self.words.len())?;
         self.write(address, word);
         Ok(())
     }

@@ -6,8 +6,7 @@ use Rattle.lane.specs.declared.sides.Put.{Put}
 use Rattle.lane.specs.declared.sides.Put.TheVariants as put
 use Rattle.lane.specs.declared.sides.Take.{Take}
 use Rattle.lane.specs.declared.sides.Take.TheVariants as take
-use Rattle.lane.specs.declared.sides.Feeder.{Feeder}
-use Rattle.lane.specs.declared.sides.Drawer.{Drawer}
+use Rattle.lane.specs.Hands.{Feeder, Drawer}
 use Rattle.lane.specs.declared.answers.Ended.{Ended}
 use Rattle.lane.specs.declared.answers.PutAnswer.{PutAnswer}
 use Rattle.lane.specs.declared.answers.PutAnswer.TheVariants as putting
@@ -21,7 +20,7 @@ use Rattle.memory.specs.Meaning.{Meaning, Lands, Landings, Landings.none, Landin
 use Rattle.lane.specs.Layout.{own_cell, next_cell, free_cell, mark_cell}
 use Rattle.lane.specs.PutTable as puttable
 use Rattle.lane.specs.TakeTable as taketable
-use Rattle.lane.proofs.Busy.{no_both}
+use Rattle.lane.proofs.Underway.{no_both}
 use Rattle.queue.specs.Waiting.{waiting_below}
 use Rattle.queue.proofs.Landing.{landing_law, on_sides}
 use Rattle.queue.proofs.Joining.{store_law, bar_law}

@@ -6,8 +6,7 @@ use Rattle.memory.specs.Meaning.{Meaning, line, Landings}
 use Rattle.words.specs.declared.kinds.Kind as kind
 use Rattle.lane.specs.declared.sides.Put.TheVariants as put
 use Rattle.lane.specs.declared.sides.Take.TheVariants as stage
-use Rattle.lane.specs.declared.sides.Feeder.{Feeder}
-use Rattle.lane.specs.declared.sides.Drawer.{Drawer}
+use Rattle.lane.specs.Hands.{Feeder, Drawer}
 use Rattle.lane.specs.declared.answers.Ended.{Ended}
 use Rattle.lane.specs.declared.answers.PutAnswer.{PutAnswer}
 use Rattle.lane.specs.declared.answers.PutAnswer.TheVariants.{Accepted, NoRing}
@@ -20,7 +19,7 @@ use Rattle.lane.specs.Stages.{put_steps, take_steps}
 use Rattle.lane.specs.Moments.{Moment, PutStep, TakeStep}
 use Rattle.lane.specs.Ends.{put_begun, take_begun}
 use Rattle.lane.specs.Openings.{Opens, opened}
-use Rattle.lane.proofs.Busy.{no_both, put_busy, take_busy}
+use Rattle.lane.proofs.Underway.{no_both, put_busy, take_busy}
 use Rattle.queue.specs.Waiting.{waiting, waiting_below}
 use Rattle.queue.specs.History.{Event, Happens, Leads, begins_put, begins_take}
 use Rattle.queue.specs.History as history

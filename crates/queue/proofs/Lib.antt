@@ -33,5 +33,6 @@ pub mod Opens
 pub mod Tales
 pub mod Here
 pub mod Histories
+pub mod EndTurns
 pub mod CallRows
 pub mod Keeping

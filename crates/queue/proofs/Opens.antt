@@ -6,8 +6,7 @@ use Rattle.memory.specs.Meaning.{Meaning, line, Landings}
 use Rattle.queue.specs.Waiting.{size, NothingWaits}
 use Rattle.lane.proofs.Sizes.{extent_landings}
 use Rattle.words.specs.declared.kinds.Kind as kind
-use Rattle.lane.specs.declared.sides.Feeder as feeder
-use Rattle.lane.specs.declared.sides.Drawer as drawer
+use Rattle.lane.specs.Hands as hands
 use Rattle.lane.specs.declared.answers.Ended.{Ended}
 use Rattle.lane.specs.declared.answers.PutAnswer.{PutAnswer}
 use Rattle.lane.specs.declared.answers.TakeAnswer.{TakeAnswer}
@@ -22,7 +21,7 @@ use Rattle.queue.proofs.Runs.{OpenedLane, Filling, Filling.unfilled, Filling.one
 use Rattle.queue.proofs.Filling.{opening_law}
 
 module _ {X K : Type 0} (G : memory.Ghosts X) (κ : kind.Ghosts K) (R N : ℕ) where
-  pub put_eight : {f : feeder.Feeder K} {x : X} {e : feeder.Feeder K} {y : X} {a : Option (Ended (PutAnswer K))} → PutRow G κ R N f x e y a → length e.places.at ≡ length f.places.at
+  pub put_eight : {f : hands.Feeder K} {x : X} {e : hands.Feeder K} {y : X} {a : Option (Ended (PutAnswer K))} → PutRow G κ R N f x e y a → length e.places.at ≡ length f.places.at
   put_eight (puts.p1_bare i e h) = refl
   put_eight (puts.p1_full i w e h n) = refl
   put_eight (puts.p2_bare i e h) = refl
@@ -35,7 +34,7 @@ module _ {X K : Type 0} (G : memory.Ghosts X) (κ : kind.Ghosts K) (R N : ℕ) w
   put_eight (puts.p7 i e h) = refl
   put_eight (puts.p8 i e h) = simp length-set
 
-  pub take_eight : {d : drawer.Drawer K} {x : X} {e : drawer.Drawer K} {y : X} {a : Option (Ended (TakeAnswer K))} → TakeRow G κ R N d x e y a → length e.places.at ≡ length d.places.at
+  pub take_eight : {d : hands.Drawer K} {x : X} {e : hands.Drawer K} {y : X} {a : Option (Ended (TakeAnswer K))} → TakeRow G κ R N d x e y a → length e.places.at ≡ length d.places.at
   take_eight (takes.t1_bare e h) = refl
   take_eight (takes.t1_item i e h) = refl
   take_eight (takes.t1_odd w e h n) = refl

@@ -7,8 +7,7 @@ use Rattle.words.specs.declared.kinds.Kind as kind
 use Rattle.lane.specs.declared.sides.Places as their
 use Rattle.lane.specs.declared.sides.Put.{Put}
 use Rattle.lane.specs.declared.sides.Put.TheVariants as put
-use Rattle.lane.specs.declared.sides.Feeder as feeder
-use Rattle.lane.specs.declared.sides.Drawer as drawer
+use Rattle.lane.specs.Hands as hands
 use Rattle.lane.specs.declared.answers.Ended.{Ended}
 use Rattle.lane.specs.declared.answers.PutAnswer.{PutAnswer}
 use Rattle.lane.specs.declared.answers.PutAnswer.TheVariants as putting
@@ -53,14 +52,14 @@ module _ {X K : Type 0} (G : memory.Ghosts X) (κ : kind.Ghosts K) (R N : ℕ) w
     breaks : (n : ℕ) → TakeSays (ended taking.Damaged n) Lane.Out.damaged
 
   -- one row is one step of the queue, and landings
-  pub record PutGoes (f : feeder.Feeder K) (x : X) (e : feeder.Feeder K) (y : X) (a : Option (Ended (PutAnswer K))) : Type 0 where
+  pub record PutGoes (f : hands.Feeder K) (x : X) (e : hands.Feeder K) (y : X) (a : Option (Ended (PutAnswer K))) : Type 0 where
     pub mid : Meaning
     pub out : Out
     pub step : Puts (Item κ) R N (positions f.places) (put_stage κ f.stage) (G.meaning x) (positions e.places) (put_stage κ e.stage) mid out
     pub then : Landings mid (G.meaning y)
     pub says : PutSays f.stage a out
 
-  pub record TakeGoes (f : drawer.Drawer K) (x : X) (e : drawer.Drawer K) (y : X) (a : Option (Ended (TakeAnswer K))) : Type 0 where
+  pub record TakeGoes (f : hands.Drawer K) (x : X) (e : hands.Drawer K) (y : X) (a : Option (Ended (TakeAnswer K))) : Type 0 where
     pub mid : Meaning
     pub out : Out
     pub step : Takes (Item κ) R N (positions f.places) (take_stage κ f.stage) (G.meaning x) (positions e.places) (take_stage κ e.stage) mid out
@@ -82,7 +81,7 @@ module _ {X K : Type 0} (G : memory.Ghosts X) (κ : kind.Ghosts K) (R N : ℕ) w
   mark_is : mark_cell R N ≡ Lane.mark_cell R N
   mark_is = omega arith
 
-  pub put_goes : (f : feeder.Feeder K) (x : X) {e : feeder.Feeder K} {y : X} {a : Option (Ended (PutAnswer K))} → f.places.ring < length f.places.at → PutRow G κ R N f x e y a → PutGoes f x e y a
+  pub put_goes : (f : hands.Feeder K) (x : X) {e : hands.Feeder K} {y : X} {a : Option (Ended (PutAnswer K))} → f.places.ring < length f.places.at → PutRow G κ R N f x e y a → PutGoes f x e y a
   put_goes f x {y = y} lt (puttable.p1_bare i e h) = let l = h.rule in record { mid = G.meaning x; out = Lane.Out.on; step = from (ap (put_stage κ) e) (Lane.FeedsOver.p1_bare (sym l.1)); then = still x y l.2; says = goes_on }
   put_goes f x {y = y} lt (puttable.p1_full i w e h ne) = let l = h.rule in record { mid = G.meaning x; out = Lane.Out.on; step = from (ap (put_stage κ) e) (Lane.FeedsOver.p1_full (λ z. ne (l.1 ∙ z))); then = still x y l.2; says = goes_on }
   put_goes f x {y = y} lt (puttable.p2_bare i e h) = let l = h.rule in record { mid = G.meaning x; out = Lane.Out.no_ring (κ.word i); step = from (ap (put_stage κ) e) (Lane.FeedsOver.p2_bare (rw (free_is f.places) at (sym l.1))); then = still x y l.2; says = lacks (f.steps + 1) i }
@@ -105,11 +104,11 @@ module _ {X K : Type 0} (G : memory.Ghosts X) (κ : kind.Ghosts K) (R N : ℕ) w
   stageT {P} {P'} {s} {S'} {S''} {m} {n} {o} e h = subst (λ (v : Taking). Takes (Item κ) R N P s m P' v n o) (sym e) h
 
   -- a word seen in the own cell: an item's, or that of none
-  module _ (d : drawer.Drawer K) (x y : X) (w : ℕ) (l : w ≡ look Drawer (own_cell N d.places) (G.meaning x)) (same : G.meaning y ≡ G.meaning x) where
-    item_goes : {e : drawer.Drawer K} (i : K) (s : Taking) → κ.word i ≡ w → take_stage κ d.stage ≡ s → ((Item κ (look Drawer (own_cell N d.places) (G.meaning x))) → Takes (Item κ) R N (positions d.places) s (G.meaning x) (positions e.places) (Lane.Taking.t9 (look Drawer (own_cell N d.places) (G.meaning x))) (G.meaning x) Lane.Out.on) → take_stage κ e.stage ≡ Lane.Taking.t9 (κ.word i) → TakeGoes d x e y None
+  module _ (d : hands.Drawer K) (x y : X) (w : ℕ) (l : w ≡ look Drawer (own_cell N d.places) (G.meaning x)) (same : G.meaning y ≡ G.meaning x) where
+    item_goes : {e : hands.Drawer K} (i : K) (s : Taking) → κ.word i ≡ w → take_stage κ d.stage ≡ s → ((Item κ (look Drawer (own_cell N d.places) (G.meaning x))) → Takes (Item κ) R N (positions d.places) s (G.meaning x) (positions e.places) (Lane.Taking.t9 (look Drawer (own_cell N d.places) (G.meaning x))) (G.meaning x) Lane.Out.on) → take_stage κ e.stage ≡ Lane.Taking.t9 (κ.word i) → TakeGoes d x e y None
     item_goes i s z e f q = record { mid = G.meaning x; out = Lane.Out.on; step = stageT (q ∙ ap Lane.Taking.t9 (z ∙ l)) (fromT e (f (i, z ∙ l))); then = still x y same; says = goes_on }
 
-  pub take_goes : (d : drawer.Drawer K) (x : X) {e : drawer.Drawer K} {y : X} {a : Option (Ended (TakeAnswer K))} → d.places.ring < length d.places.at → TakeRow G κ R N d x e y a → TakeGoes d x e y a
+  pub take_goes : (d : hands.Drawer K) (x : X) {e : hands.Drawer K} {y : X} {a : Option (Ended (TakeAnswer K))} → d.places.ring < length d.places.at → TakeRow G κ R N d x e y a → TakeGoes d x e y a
   take_goes d x {y = y} lt (taketable.t1_bare e h) = let l = h.rule in record { mid = G.meaning x; out = Lane.Out.on; step = fromT (ap (take_stage κ) e) (Lane.DrawsOver.t1_bare (sym l.1)); then = still x y l.2; says = goes_on }
   take_goes d x {y = y} lt (taketable.t3_bare e h) = let l = h.rule in record { mid = G.meaning x; out = Lane.Out.on; step = fromT (ap (take_stage κ) e) (Lane.DrawsOver.t3_bare (sym l.1)); then = still x y l.2; says = goes_on }
   take_goes d x {y = y} lt (taketable.t8_bare e h) = let l = h.rule in record { mid = G.meaning x; out = Lane.Out.empty; step = fromT (ap (take_stage κ) e) (Lane.DrawsOver.t8_bare (sym l.1)); then = still x y l.2; says = lacks (d.steps + 1) }

@@ -3,10 +3,8 @@ use Rattle.std.specs.Prelude.{◌≡◌, ℕ}
 use Rattle.memory.specs.declared.Memory as memory
 use Rattle.memory.specs.declared.Side.{Side}
 use Rattle.words.specs.declared.kinds.Kind as kind
-use Rattle.lane.specs.declared.refusals.Refusal.{Refusal}
-use Rattle.lane.specs.declared.refusals.Refusal.TheVariants.{Outside}
 use Rattle.lane.specs.Layout.{Shaped}
-use Rattle.lane.specs.Moments.{Moment, Landing, Draining, Cramped}
+use Rattle.lane.specs.Moments.{Moment, Landing, Draining}
 use Rattle.lane.specs.Openings.{Opens, opened}
 use Rattle.queue.specs.declared.moves.Move.{Move}
 use Rattle.queue.specs.declared.moves.Move.TheVariants.{Feed, Draw, Drain, Land}
@@ -23,15 +21,6 @@ module _ {K X : Type 0} (G : memory.Ghosts X) (κ : kind.Ghosts K) where
     lands : {s : Side} {pick : ℕ} {m n : Moment K X} → Landing G s pick m n → Turn (Land s pick) m Nothing n
 
 module _ {K X : Type 0} (G : memory.Ghosts X) where
-  -- a step that is not made: its end fits, so the memory has too few words for the lane
-  pub data StepRefused (m n : Moment K X) : Refusal → Type 0 where
-    outside : {a : ℕ} → Cramped G m n → StepRefused m n (Outside a)
-
-  -- a call goes on or begins, and its step is not made
-  pub data TurnRefused : Move K → Moment K X → Refusal → Moment K X → Type 0 where
-    feeds : {i : K} {m n o : Moment K X} {why : Refusal} → Begun i m n → StepRefused n o why → TurnRefused (Feed i) m why o
-    draws : {m n o : Moment K X} {why : Refusal} → TakeBegins m n → StepRefused n o why → TurnRefused Draw m why o
-
   -- a lane just opened over x
   pub record JustOpenedOver (number R N : ℕ) (x : X) (m : Moment K X) : Type 0 where
     pub shaped : Shaped R N

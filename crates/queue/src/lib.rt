@@ -9,5 +9,5 @@ mod turns;
 
 pub use laws::{line_laws, promise_examples, promise_kept};
 pub use moves::{Move, Said};
-pub use plays::{Played, play};
+pub use plays::play;
 pub use states::{Play, Told};

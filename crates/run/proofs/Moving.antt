@@ -1,5 +1,5 @@
 -- What a move makes of a run.
-use Rattle.std.proofs.Common.{◌≡◌, ℕ, ◌+◌, ◌<◌, ◌≤◌, Bool, true, false, List, [], ◌∷◌, ◌++◌, map, length, get_or, drop, Ok, Err, Option, Result, sym, refl, ap, ◌∙◌, subst, MatchResult}
+use Rattle.std.proofs.Common.{◌≡◌, ℕ, ◌+◌, ◌<◌, ◌≤◌, Bool, true, false, List, [], ◌∷◌, ◌++◌, map, length, get_or, drop, Ok, Err, Option, Result, sym, refl, ap, ◌∙◌, subst}
 use Rattle.std.proofs.lemmas.List.{drop_more, drop_all, drop-drop}
 use Rattle.memory.specs.declared.Memory as memory
 use Rattle.memory.specs.declared.Side.{Side}
@@ -7,18 +7,16 @@ use Rattle.words.specs.declared.kinds.Kind as kind
 use Rattle.lane.specs.declared.answers.Ended.{Ended}
 use Rattle.lane.specs.declared.answers.PutAnswer.{PutAnswer}
 use Rattle.lane.specs.declared.answers.TakeAnswer.{TakeAnswer}
-use Rattle.lane.specs.declared.refusals.Refusal.{Refusal}
-use Rattle.lane.specs.declared.sides.Feeder.{Feeder}
-use Rattle.lane.specs.declared.sides.Drawer.{Drawer}
+use Rattle.lane.specs.Hands.{Feeder, Drawer}
 use Rattle.lane.specs.Moments.{Moment, PutStep, TakeStep, Landing, Draining}
 use Rattle.lane.specs.Stages.{putting, taking}
-use Rattle.lane.proofs.Busy.{put_ends, take_ends}
+use Rattle.lane.proofs.Underway.{put_ends, take_ends}
 use Rattle.queue.specs.declared.moves.Move.TheVariants as move
 use Rattle.queue.specs.declared.moves.Said.{Said}
 use Rattle.queue.specs.History.{Event, Leads}
 use Rattle.queue.specs.History as history
 use Rattle.queue.specs.InPlay.{Begun, TakeBegins}
-use Rattle.queue.specs.Turns.{Turn, TurnRefused}
+use Rattle.queue.specs.Turns.{Turn}
 use Rattle.queue.specs.Turns as turn
 use Rattle.queue.specs.InPlay as inplay
 use Rattle.queue.proofs.Histories.{put_stays, take_stays, putting_now, taking_now}
@@ -31,9 +29,10 @@ use Rattle.run.specs.declared.tallies.Counts.{Counts}
 use Rattle.run.specs.Logs.{ended_call, put_told, take_told, at_move}
 use Rattle.run.specs.Runs.{Standing, standing, goes_on, begun_put, begun_take, accepting, put_damaged, take_damaged, Steps, Makes, MeetsDamage}
 use Rattle.run.specs.Runs as runs
-use Rattle.run.specs.Running.{Noted, PutNoted, TakeNoted, stands_at, FedOn, DrawnOn, Moved, Halted, ComesTo}
+use Rattle.run.specs.Running.{Noted, PutNoted, TakeNoted, stands_at, Moved, Halted, ComesTo}
 use Rattle.run.specs.Running as running
 use Rattle.run.proofs.Noting.{noted_none}
+use Rattle.run.proofs.Turning.{FedOn, DrawnOn}
 
 same_standing : {ws vs : List ℕ} {p q t u : Bool} → ws ≡ vs → p ≡ q → t ≡ u → standing ws p t ≡ standing vs q u
 same_standing a b c = cc
@@ -57,12 +56,12 @@ module _ {K X : Type 0} (G : memory.Ghosts X) (κ : kind.Ghosts K) where
   take_events m a n = begun_take (taking m.drawer.stage) ++ (history.steps_take (G.meaning m.memory) (G.meaning n.memory) a ∷ [])
 
   put_leads : {i : K} {m n o : Moment K X} {a : Option (Ended (PutAnswer K))} → Begun i m n → PutStep G κ n o a → Leads G κ m (put_events i m a o) o
-  put_leads {i} {m} {n} {o} {a} (inplay.Begun.goes_on b) s = subst (λ (p : Bool). Leads G κ m (begun_put p i ++ (history.steps_put (G.meaning m.memory) (G.meaning o.memory) a ∷ [])) o) (sym (putting_now m.feeder.stage b)) (history.first (history.put_steps s) history.at_rest)
-  put_leads {i} {m} {n} {o} {a} (inplay.Begun.begins e) s = subst (λ (p : Bool). Leads G κ m (begun_put p i ++ (history.steps_put (G.meaning m.memory) (G.meaning o.memory) a ∷ [])) o) (sym (ap putting e)) (history.first (history.put_begins e refl) (history.first (history.put_steps s) history.at_rest))
+  put_leads {i} {m} {n} {o} {a} (inplay.Begins.goes_on b) s = subst (λ (p : Bool). Leads G κ m (begun_put p i ++ (history.steps_put (G.meaning m.memory) (G.meaning o.memory) a ∷ [])) o) (sym (putting_now m.feeder.stage b)) (history.first (history.put_steps s) history.at_rest)
+  put_leads {i} {m} {n} {o} {a} (inplay.Begins.begins e) s = subst (λ (p : Bool). Leads G κ m (begun_put p i ++ (history.steps_put (G.meaning m.memory) (G.meaning o.memory) a ∷ [])) o) (sym (ap putting e)) (history.first (history.put_begins e refl) (history.first (history.put_steps s) history.at_rest))
 
   take_leads : {m n o : Moment K X} {a : Option (Ended (TakeAnswer K))} → TakeBegins m n → TakeStep G κ n o a → Leads G κ m (take_events m a o) o
-  take_leads {m} {n} {o} {a} (inplay.TakeBegins.goes_on b) s = subst (λ (p : Bool). Leads G κ m (begun_take p ++ (history.steps_take (G.meaning m.memory) (G.meaning o.memory) a ∷ [])) o) (sym (taking_now m.drawer.stage b)) (history.first (history.take_steps s) history.at_rest)
-  take_leads {m} {n} {o} {a} (inplay.TakeBegins.begins e) s = subst (λ (p : Bool). Leads G κ m (begun_take p ++ (history.steps_take (G.meaning m.memory) (G.meaning o.memory) a ∷ [])) o) (sym (ap taking e)) (history.first (history.take_begins e refl) (history.first (history.take_steps s) history.at_rest))
+  take_leads {m} {n} {o} {a} (inplay.Begins.goes_on b) s = subst (λ (p : Bool). Leads G κ m (begun_take p ++ (history.steps_take (G.meaning m.memory) (G.meaning o.memory) a ∷ [])) o) (sym (taking_now m.drawer.stage b)) (history.first (history.take_steps s) history.at_rest)
+  take_leads {m} {n} {o} {a} (inplay.Begins.begins e) s = subst (λ (p : Bool). Leads G κ m (begun_take p ++ (history.steps_take (G.meaning m.memory) (G.meaning o.memory) a ∷ [])) o) (sym (ap taking e)) (history.first (history.take_begins e refl) (history.first (history.take_steps s) history.at_rest))
 
   module _ (words : List ℕ) (n : ℕ) (m : Moment K X) where
     -- an item is left to offer
@@ -103,19 +102,17 @@ module _ {K X : Type 0} (G : memory.Ghosts X) (κ : kind.Ghosts K) where
       take_comes (Ok d) {a} o log' f g p = record { events = take_events m a o; cs = ended_call (take_told κ) a; makes = subst (λ (k : ℕ). Makes κ n (stands_at words c.accepted m) Draw (take_events m a o) (map (at_move n) (ended_call (take_told κ) a)) (stands_at words k o)) (sym p.1) (take_makes c.accepted g p.0); leads = take_leads g.begun g.step; place = λ _. f; noted = p.2 }
       take_comes (Err s) {a} o log' f g p = (subst (λ (t : Stop). Halted G κ n words Draw c m log o t) (sym p.1) (running.Halted.broken f (runs.MeetsDamage.takes (G.meaning m.memory) (G.meaning o.memory) a p.0) (take_leads g.begun g.step)), p.2)
 
-      drained : (r : Result (Said K) Refusal) (o : Moment K X) → MatchResult r (λ s. Turn G κ move.Drain m s o) (λ why. TurnRefused G move.Drain m why o) → Draining G m o
-      drained (Ok s) o (turn.Turn.drains h) = h
-      drained (Err why) o h = absurd (elim h [ ])
+      drained : {s : Said K} (o : Moment K X) → Turn G κ move.Drain m s o → Draining G m o
+      drained o (turn.Turn.drains h) = h
 
-      landed : {side : Side} {pick : ℕ} (r : Result (Said K) Refusal) (o : Moment K X) → MatchResult r (λ s. Turn G κ (move.Land side pick) m s o) (λ why. TurnRefused G (move.Land side pick) m why o) → Landing G side pick m o
-      landed (Ok s) o (turn.Turn.lands h) = h
-      landed (Err why) o h = absurd (elim h [ ])
+      landed : {side : Side} {pick : ℕ} {s : Said K} (o : Moment K X) → Turn G κ (move.Land side pick) m s o → Landing G side pick m o
+      landed o (turn.Turn.lands h) = h
 
-      pub drain_comes : (r : Result (Said K) Refusal) (o : Moment K X) → MatchResult r (λ s. Turn G κ move.Drain m s o) (λ why. TurnRefused G move.Drain m why o) → ComesTo G κ n words Drain c m log (Ok c) o log
-      drain_comes r o t = let h = drained r o t in record { events = history.drains ∷ []; cs = []; makes = subst (λ (s : Standing). Makes κ n (stands_at words c.accepted m) Drain (history.drains ∷ []) [] s) (sym (same_standing refl (ap (λ (p : Moment K X). putting p.feeder.stage) h.after) (ap (λ (p : Moment K X). taking p.drawer.stage) h.after))) runs.Makes.drains; leads = history.first (history.draining h) history.at_rest; place = λ s. absurd (no_drain_steps s); noted = noted_none n c.calls log }
+      pub drain_comes : {s : Said K} (o : Moment K X) → Turn G κ move.Drain m s o → ComesTo G κ n words Drain c m log (Ok c) o log
+      drain_comes o t = let h = drained o t in record { events = history.drains ∷ []; cs = []; makes = subst (λ (s : Standing). Makes κ n (stands_at words c.accepted m) Drain (history.drains ∷ []) [] s) (sym (same_standing refl (ap (λ (p : Moment K X). putting p.feeder.stage) h.after) (ap (λ (p : Moment K X). taking p.drawer.stage) h.after))) runs.Makes.drains; leads = history.first (history.draining h) history.at_rest; place = λ s. absurd (no_drain_steps s); noted = noted_none n c.calls log }
 
-      pub land_comes : (side : Side) (pick : ℕ) (r : Result (Said K) Refusal) (o : Moment K X) → MatchResult r (λ s. Turn G κ (move.Land side pick) m s o) (λ why. TurnRefused G (move.Land side pick) m why o) → ComesTo G κ n words (Land side pick) c m log (Ok c) o log
-      land_comes side pick r o t = let h = landed r o t in record { events = history.lands side pick ∷ []; cs = []; makes = subst (λ (s : Standing). Makes κ n (stands_at words c.accepted m) (Land side pick) (history.lands side pick ∷ []) [] s) (sym (same_standing refl (ap (λ (p : Moment K X). putting p.feeder.stage) h.after) (ap (λ (p : Moment K X). taking p.drawer.stage) h.after))) runs.Makes.lands; leads = history.first (history.landing h) history.at_rest; place = λ s. absurd (no_landing_steps s); noted = noted_none n c.calls log }
+      pub land_comes : (side : Side) (pick : ℕ) {s : Said K} (o : Moment K X) → Turn G κ (move.Land side pick) m s o → ComesTo G κ n words (Land side pick) c m log (Ok c) o log
+      land_comes side pick o t = let h = landed o t in record { events = history.lands side pick ∷ []; cs = []; makes = subst (λ (s : Standing). Makes κ n (stands_at words c.accepted m) (Land side pick) (history.lands side pick ∷ []) [] s) (sym (same_standing refl (ap (λ (p : Moment K X). putting p.feeder.stage) h.after) (ap (λ (p : Moment K X). taking p.drawer.stage) h.after))) runs.Makes.lands; leads = history.first (history.landing h) history.at_rest; place = λ s. absurd (no_landing_steps s); noted = noted_none n c.calls log }
 
 module _ {K X : Type 0} (G : memory.Ghosts X) (κ : kind.Ghosts K) where
   -- what becomes of a move, by the result

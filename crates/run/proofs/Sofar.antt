@@ -6,7 +6,7 @@ use Rattle.words.specs.declared.kinds.Kind as kind
 use Rattle.lane.specs.Moments.{Moment}
 use Rattle.queue.specs.History.{Event, Leads}
 use Rattle.queue.specs.History as history
-use Rattle.queue.proofs.Histories.{leads_join, leads_room}
+use Rattle.queue.proofs.Histories.{leads_join}
 use Rattle.run.specs.declared.faults.Stop.{Stop}
 use Rattle.run.specs.declared.faults.Stop.TheVariants.{UnknownMove}
 use Rattle.run.specs.declared.orders.Order.{Order}
@@ -40,8 +40,8 @@ module _ {A : Type 0} where
       omega arith
 
 module _ {K X : Type 0} (G : memory.Ghosts X) (κ : kind.Ghosts K) where
-  pub run_none : (m : Moment K X) (words : List ℕ) (log : List Record) → Ready G κ m → RunSoFar G κ m words [] log log (record { accepted = 0; calls = 0 }) m
-  run_none m words log r = record { events = []; records = []; runs = subst (λ (s : Standing). Runs κ (length log) words [] [] [] s) (same r.no_put r.no_take) runs.Runs.not_yet; leads = history.at_rest; counted = refl; few = omega arith; logged = refl; roomy = r.roomy }
+  pub run_none : (m : Moment K X) (words : List ℕ) (log : List Record) → Ready m → RunSoFar G κ m words [] log log (record { accepted = 0; calls = 0 }) m
+  run_none m words log r = record { events = []; records = []; runs = subst (λ (s : Standing). Runs κ (length log) words [] [] [] s) (same r.no_put r.no_take) runs.Runs.not_yet; leads = history.at_rest; counted = refl; few = omega arith; logged = refl }
     where
       same : {p t : Bool} → p ≡ false → t ≡ false → standing words false false ≡ standing words p t
       same a b = cc
@@ -56,7 +56,6 @@ module _ {K X : Type 0} (G : memory.Ghosts X) (κ : kind.Ghosts K) where
       counted = counted;
       few = rw q.noted.counted (omega (arith, place_kept rs log log' c.calls (length rs) (omega (arith, p.few)) refl q.noted.logged (k ∙ sym l)));
       logged = q.noted.logged ∙ (log_more p.records rs log before c.calls (length rs) p.logged p.counted ∙ ap (λ (i : ℕ). (p.records ++ rs) ++ drop i before) (sym q.noted.counted));
-      roomy = leads_room G κ q.leads p.roomy;
     }
       where
         rs : List Record

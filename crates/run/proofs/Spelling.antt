@@ -2,7 +2,7 @@
 use Rattle.std.proofs.Common.{◌≡◌, ℕ, zero, suc, ◌+◌, ◌<◌, ◌≤◌, List, [], ◌∷◌, ◌++◌, map, length, get_or, take, sym, refl, ap, ◌∙◌, arith}
 use Rattle.std.proofs.lemmas.List.{map-append, take_more, take_all}
 use Rattle.words.specs.declared.kinds.Kind as kind
-use Rattle.run.specs.Promised.{Spelled}
+use Rattle.run.specs.Spelling.{Spelled}
 
 module _ {K : Type 0} (κ : kind.Ghosts K) where
   pub spelled_none : Spelled κ []

@@ -8,7 +8,7 @@ use Rattle.lane.specs.declared.answers.PutAnswer.{PutAnswer}
 use Rattle.lane.specs.declared.answers.PutAnswer.TheVariants as put
 use Rattle.lane.specs.declared.answers.TakeAnswer.{TakeAnswer}
 use Rattle.lane.specs.declared.answers.TakeAnswer.TheVariants as take
-use Rattle.lane.proofs.Busy.{no_both}
+use Rattle.lane.proofs.Underway.{no_both}
 use Rattle.queue.specs.History.{Event}
 use Rattle.queue.specs.History as history
 use Rattle.queue.specs.Calls.{PutCall, TakeCall, Account, if_accepted, if_taken, accepted_by, taken_by, accepted, taken, nothing_yet, untaken_of, sight, put_noted, take_noted, noted, account, account_from}

@@ -8,24 +8,25 @@ use Rattle.lane.specs.declared.answers.TakeAnswer.{TakeAnswer}
 use Rattle.lane.specs.Moments.{Moment, PutStep, TakeStep}
 use Rattle.queue.specs.declared.moves.Move.TheVariants.{Feed, Draw}
 use Rattle.queue.specs.declared.moves.Said.{Said}
-use Rattle.queue.specs.declared.moves.Said.TheVariants.{Nothing, Put, Take}
 use Rattle.queue.specs.Plays.{put_said, take_said}
 use Rattle.queue.specs.Turns.{Turn}
 use Rattle.queue.specs.Turns as turn
-use Rattle.run.specs.Running.{FedOn, DrawnOn}
+use Rattle.queue.specs.InPlay.{Begun, TakeBegins}
+use Rattle.run.specs.Running.{said_put, said_take}
+
+module _ {K X : Type 0} (G : memory.Ghosts X) (κ : kind.Ghosts K) where
+  -- a step of a put of item i, and a step of a take, which begins the call where none is under way
+  pub record FedOn (i : K) (m : Moment K X) (a : Option (Ended (PutAnswer K))) (n : Moment K X) : Type 0 where
+    pub middle : Moment K X
+    pub begun : Begun i m middle
+    pub step : PutStep G κ middle n a
+
+  pub record DrawnOn (m : Moment K X) (a : Option (Ended (TakeAnswer K))) (n : Moment K X) : Type 0 where
+    pub middle : Moment K X
+    pub begun : TakeBegins m middle
+    pub step : TakeStep G κ middle n a
 
 module _ {K : Type 0} where
-  -- the answer that a move tells of
-  abbrev pub said_put : Said K → Option (Ended (PutAnswer K))
-  said_put Nothing = None
-  said_put (Put e) = Some e
-  said_put (Take e) = None
-
-  abbrev pub said_take : Said K → Option (Ended (TakeAnswer K))
-  said_take Nothing = None
-  said_take (Put e) = None
-  said_take (Take e) = Some e
-
   put_back : (a : Option (Ended (PutAnswer K))) → said_put (put_said a) ≡ a
   put_back None = refl
   put_back (Some e) = refl

@@ -1,32 +1,18 @@
 -- What a run leaves, and what is promised of it.
-use Rattle.std.specs.Prelude.{◌≡◌, ℕ, ◌<◌, List, ◌++◌, map, length, take as first, drop, ◌≢◌, slice_index}
+use Rattle.std.specs.Prelude.{◌≡◌, ℕ, List, ◌++◌, map, length, take as first, drop}
 use Rattle.memory.specs.declared.Memory as memory
 use Rattle.words.specs.declared.kinds.Kind as kind
-use Rattle.words.specs.declared.faults.ItemFault.TheVariants.{NoItem}
 use Rattle.lane.specs.Moments.{Moment}
 use Rattle.lane.specs.Openings.{Openable, Opens, Unopened, opened}
 use Rattle.queue.specs.History.{Event, Leads}
 use Rattle.queue.specs.Promise.{Promise}
 use Rattle.run.specs.declared.faults.RunFault.{RunFault}
 use Rattle.run.specs.declared.faults.RunFault.TheVariants.{Opening, Word}
-use Rattle.run.specs.declared.faults.WordFault.{WordFault}
 use Rattle.run.specs.declared.records.Record.{Record}
 use Rattle.run.specs.declared.tallies.Tally.{Tally}
+use Rattle.run.specs.Spelling.{Spelled, FirstOdd}
 use Rattle.run.specs.Logs.{call, ended_calls, words_in, words_out}
 use Rattle.run.specs.Runs.{Standing, Runs, Stopped}
-
-module _ {K : Type 0} (κ : kind.Ghosts K) where
-  -- these are the words of items
-  pub record Spelled (words : List ℕ) : Type 0 where
-    pub items : List K
-    pub spell : words ≡ map κ.word items
-
-  -- the first of the words that is no item's
-  pub record FirstOdd (words : List ℕ) (f : WordFault) : Type 0 where
-    pub within : f.index < length words
-    pub no_item : (i : K) → κ.word i ≢ slice_index words f.index
-    pub names : f.fault ≡ NoItem (slice_index words f.index)
-    pub before : Spelled (first f.index words)
 
 module _ {K X : Type 0} (G : memory.Ghosts X) (κ : kind.Ghosts K) where
   -- why a run does not begin: opening is refused, or all is well with it and a word is no item's; the memory means what it meant

@@ -1,14 +1,15 @@
 -- A run between two moves, and what a move makes of it.
-use Rattle.std.specs.Prelude.{◌≡◌, ℕ, ◌+◌, ◌<◌, ◌≤◌, true, false, List, ◌++◌, map, length, take as first, drop, None, Ok, Err, Option, Result, ◌≢◌}
+use Rattle.std.specs.Prelude.{◌≡◌, ℕ, ◌+◌, ◌<◌, ◌≤◌, true, false, List, ◌++◌, map, length, take as first, drop, Some, None, Ok, Err, Option, Result, ◌≢◌}
 use Rattle.memory.specs.declared.Memory as memory
 use Rattle.words.specs.declared.kinds.Kind as kind
 use Rattle.lane.specs.declared.answers.Ended.{Ended}
 use Rattle.lane.specs.declared.answers.PutAnswer.{PutAnswer}
 use Rattle.lane.specs.declared.answers.TakeAnswer.{TakeAnswer}
-use Rattle.lane.specs.Moments.{Moment, PutStep, TakeStep}
+use Rattle.lane.specs.Moments.{Moment}
 use Rattle.lane.specs.Stages.{putting, taking}
 use Rattle.queue.specs.History.{Event, Leads}
-use Rattle.queue.specs.InPlay.{Begun, TakeBegins, Roomy}
+use Rattle.queue.specs.declared.moves.Said.{Said}
+use Rattle.queue.specs.declared.moves.Said.TheVariants.{Nothing, Put, Take}
 use Rattle.run.specs.declared.faults.Stop.{Stop}
 use Rattle.run.specs.declared.faults.Stop.TheVariants.{Damaged, LogFull}
 use Rattle.run.specs.declared.orders.Order.{Order}
@@ -22,6 +23,18 @@ use Rattle.run.specs.Runs.{Standing, standing, accepting, put_damaged, take_dama
 pub record Noted (n : ℕ) (cs : List Call) (calls : ℕ) (log log' : List Record) (calls' : ℕ) : Type 0 where
   pub counted : calls' ≡ calls + length (map (at_move n) cs)
   pub logged : log' ≡ first calls log ++ (map (at_move n) cs ++ drop (calls + length (map (at_move n) cs)) log)
+
+module _ {K : Type 0} where
+  -- how the put ended of which a move tells, and the take
+  abbrev pub said_put : Said K → Option (Ended (PutAnswer K))
+  said_put Nothing = None
+  said_put (Put e) = Some e
+  said_put (Take e) = None
+
+  abbrev pub said_take : Said K → Option (Ended (TakeAnswer K))
+  said_take Nothing = None
+  said_take (Put e) = None
+  said_take (Take e) = Some e
 
 -- a call that ended is noted, or stops the run where there is nothing to tell of it
 abbrev pub CallNoted : ℕ → Option Answer → ℕ → ℕ → List Record → List Record → Result ℕ Stop → Type 0
@@ -43,17 +56,6 @@ abbrev pub stands_at : {K X : Type 0} → List ℕ → ℕ → Moment K X → St
 stands_at words accepted m = standing (drop accepted words) (putting m.feeder.stage) (taking m.drawer.stage)
 
 module _ {K X : Type 0} (G : memory.Ghosts X) (κ : kind.Ghosts K) where
-  -- a step of a put of item i, and a step of a take, which begins the call where none is under way
-  pub record FedOn (i : K) (m : Moment K X) (a : Option (Ended (PutAnswer K))) (n : Moment K X) : Type 0 where
-    pub middle : Moment K X
-    pub begun : Begun i m middle
-    pub step : PutStep G κ middle n a
-
-  pub record DrawnOn (m : Moment K X) (a : Option (Ended (TakeAnswer K))) (n : Moment K X) : Type 0 where
-    pub middle : Moment K X
-    pub begun : TakeBegins m middle
-    pub step : TakeStep G κ middle n a
-
   -- move n is made
   pub record Moved (n : ℕ) (words : List ℕ) (o : Order) (c : Counts) (m : Moment K X) (log : List Record) (d : Counts) (m' : Moment K X) (log' : List Record) : Type 0 where
     pub events : List (Event K)
@@ -82,10 +84,8 @@ module _ {K X : Type 0} (G : memory.Ghosts X) (κ : kind.Ghosts K) where
     pub counted : c.calls ≡ length records
     pub few : c.calls ≤ length before
     pub logged : after ≡ records ++ drop c.calls before
-    pub roomy : Roomy G κ m
 
-  -- a lane with room for its words, on which no call is under way
-  pub record Ready (m : Moment K X) : Type 0 where
-    pub roomy : Roomy G κ m
-    pub no_put : putting m.feeder.stage ≡ false
-    pub no_take : taking m.drawer.stage ≡ false
+-- a lane on which no call is under way
+pub record Ready {K X : Type 0} (m : Moment K X) : Type 0 where
+  pub no_put : putting m.feeder.stage ≡ false
+  pub no_take : taking m.drawer.stage ≡ false

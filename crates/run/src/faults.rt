@@ -30,6 +30,7 @@ pub enum Stop {
     LogFull { index: usize },
 }
 
+// by hand, since a derived `From` does not say which fault it makes
 impl From<OpenRefusal> for RunFault {
     ghost from_gives = { λ e r. r ≡ Opening e };
 

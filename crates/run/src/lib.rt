@@ -4,15 +4,15 @@
 mod checks;
 pub mod faults;
 mod notes;
+mod offers;
 pub mod orders;
 pub mod records;
 mod running;
 mod runs;
 pub mod tallies;
-mod turns;
 
 pub use faults::{RunFault, Stop, WordFault};
-pub use orders::Order;
+pub use orders::{Order, UnknownByte};
 pub use records::{Answer, Record};
 pub use runs::run;
-pub use tallies::{Ran, Tally};
+pub use tallies::{NotRun, Ran, Tally};

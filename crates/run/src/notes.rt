@@ -1,13 +1,14 @@
 //! How the log tells of the calls that end.
 ghost use Rattle.std.specs.Prelude.{◌≡◌, ◌+◌, ◌^◌, ◌<◌, length, Some};
 ghost use Rattle.run.specs.Logs.{put_told, take_told};
-ghost use Rattle.run.specs.Running.{CallNoted, PutNoted, TakeNoted};
+ghost use Rattle.run.specs.Running.{said_put, said_take, CallNoted, PutNoted, TakeNoted};
 ghost use Rattle.run.specs.Runs.{accepting};
 
 use crate::faults::Stop;
 use crate::records::{Answer, Record};
 use crate::tallies::Counts;
 use lane::{Ended, PutAnswer, TakeAnswer};
+use queue::Said;
 use words::Kind;
 
 // How the log tells of the answer to a put of this item.
@@ -69,15 +70,16 @@ fn count_accepted<K: Kind>(ended: Ended<PutAnswer<K>>) -> usize
 pub(crate) fn note_put<K: Kind>(
     index: usize,
     item: K,
-    ended: Option<Ended<PutAnswer<K>>>,
+    said: Said<K>,
     counts: Counts,
     log: &mut [Record],
 ) -> Result<Counts, Stop>
     requires { (counts.calls < length log.old) × (counts.accepted + 1 < 2 ^ 64) }
-    ensures { PutNoted K.Kind index item ended counts log.old log.new result }
+    ensures { PutNoted K.Kind index item (said_put said) counts log.old log.new result }
 {
-    let Some(ended) = ended else {
-        return Ok(counts);
+    let ended = match said {
+        Said::Put(ended) => ended,
+        Said::Nothing | Said::Take(_) => return Ok(counts),
     };
     let told = tell_put(item, ended.answer);
     let calls = note(index, told, ended.steps, counts.calls, log)?;
@@ -90,20 +92,18 @@ pub(crate) fn note_put<K: Kind>(
 // Notes a step of a take, where it ended the take.
 pub(crate) fn note_take<K: Kind>(
     index: usize,
-    ended: Option<Ended<TakeAnswer<K>>>,
+    said: Said<K>,
     counts: Counts,
     log: &mut [Record],
 ) -> Result<Counts, Stop>
     requires { counts.calls < length log.old }
-    ensures { TakeNoted K.Kind index ended counts log.old log.new result }
+    ensures { TakeNoted K.Kind index (said_take said) counts log.old log.new result }
 {
-    let Some(ended) = ended else {
-        return Ok(counts);
+    let ended = match said {
+        Said::Take(ended) => ended,
+        Said::Nothing | Said::Put(_) => return Ok(counts),
     };
     let told = tell_take(ended.answer);
     let calls = note(index, told, ended.steps, counts.calls, log)?;
-    Ok(Counts {
-        accepted: counts.accepted,
-        calls,
-    })
+    Ok(Counts { calls, ..counts })
 }

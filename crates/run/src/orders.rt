@@ -1,6 +1,6 @@
 //! What a move's byte asks for.
-ghost use Rattle.std.specs.Prelude.{◌≡◌};
-ghost use Rattle.run.specs.Orders.{order};
+ghost use Rattle.std.specs.Prelude.{◌≡◌, MatchResult};
+ghost use Rattle.run.specs.Orders.{Asks, Unknown};
 
 use memory::Side;
 
@@ -15,18 +15,23 @@ pub enum Order {
     Land(Side, u8),
 }
 
-impl Order {
-    /// What the byte asks for, if anything.
-    pub fn read(byte: u8) -> Option<Order>
-        ensures { result ≡ order byte }
-    {
+/// A byte that asks for nothing.
+#[derive(Clone, Copy, Debug, PartialEq, Eq)]
+pub struct UnknownByte;
+
+impl TryFrom<u8> for Order {
+    type Error = UnknownByte;
+
+    ghost try_from_gives = { λ byte r. MatchResult r (Asks byte) (λ _. Unknown byte) };
+
+    fn try_from(byte: u8) -> Result<Order, UnknownByte> {
         match byte {
-            0x00 => Some(Order::Feed),
-            0x01 => Some(Order::Draw),
-            0x02 => Some(Order::Drain),
-            0x40..=0x7F => Some(Order::Land(Side::Feeder, byte - 0x40)),
-            0x80..=0xBF => Some(Order::Land(Side::Drawer, byte - 0x80)),
-            _ => None,
+            0x00 => Ok(Order::Feed),
+            0x01 => Ok(Order::Draw),
+            0x02 => Ok(Order::Drain),
+            0x40..=0x7F => Ok(Order::Land(Side::Feeder, byte - 0x40)),
+            0x80..=0xBF => Ok(Order::Land(Side::Drawer, byte - 0x80)),
+            _ => Err(UnknownByte),
         }
     }
 }

@@ -1,6 +1,7 @@
 //! Makes the memory calls of a script and shows, after each, what waits and what has landed.
 #![tactic(auto)]
 
+mod line;
 mod play;
 mod request;
 mod setup;

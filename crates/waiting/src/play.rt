@@ -1,17 +1,10 @@
-//! Plays a script on the memory that it names.
-use crate::request::{make, read_request};
-use crate::setup::{Kind, Setup, read_setup};
+//! Plays a script on the memories that it names.
+use crate::line::{Line, Says};
+use crate::request::{Request, make};
+use crate::setup::{Kind, Setup, Stack};
 use crate::show::{Changes, LineOf, Show};
-use anyhow::anyhow;
+use anyhow::bail;
 use memory::{Buffer, Loose, Memory, Prompt, Side};
-
-// a line that only comments, or holds nothing
-fn is_silent(line: &str) -> bool {
-    match line.split_whitespace().next() {
-        None => true,
-        Some(word) => word.starts_with('#'),
-    }
-}
 
 fn show_line<M: Show>(rt: &HostRuntime, memory: &M, side: Side) -> anyhow::Result<()> {
     let name = match side {
@@ -23,134 +16,121 @@ fn show_line<M: Show>(rt: &HostRuntime, memory: &M, side: Side) -> anyhow::Resul
     Ok(())
 }
 
-fn show_changes(rt: &HostRuntime, before: &[u64], now: &[u64]) -> anyhow::Result<()> {
-    let changes = Changes { before, now };
+// makes a call, and shows what came of it
+fn play_call<M: Show>(
+    rt: &HostRuntime,
+    memory: &mut M,
+    text: &str,
+    request: Request,
+) -> anyhow::Result<()> {
+    let before = memory.landed().to_vec(rt.alloc())?;
+    match make(memory, request) {
+        Ok(answer) => println!(rt; "{text} -> {answer}")?,
+        Err(refusal) => {
+            let number = refusal.number();
+            println!(rt; "{text} -> refused {number}: {refusal}")?
+        }
+    }
+    show_line(rt, memory, Side::Feeder)?;
+    show_line(rt, memory, Side::Drawer)?;
+    let changes = Changes {
+        before: &before,
+        now: memory.landed(),
+    };
     println!(rt; "    landed{changes}")?;
     Ok(())
 }
 
-fn no_call(rt: &HostRuntime, at: usize, line: &str) -> anyhow::Result<String> {
-    let number = at.saturating_add(1);
-    let message = format!(in rt.alloc(); "line {number} is no memory call: {line}")?;
-    Ok(message)
-}
-
-// makes the call of one line, and shows what came of it; false where the line is no call
-fn play_line<M: Show>(rt: &HostRuntime, memory: &mut M, line: &str) -> anyhow::Result<bool> {
-    let Some(request) = read_request(line) else {
-        return Ok(false);
-    };
-    let before = memory.landed().to_vec(rt.alloc())?;
-    let answer = make(memory, request);
-    println!(rt; "{line} -> {answer}")?;
-    show_line(rt, memory, Side::Feeder)?;
-    show_line(rt, memory, Side::Drawer)?;
-    show_changes(rt, &before, memory.landed())?;
-    Ok(true)
-}
-
-// plays the lines from `start` on, up to one that names a memory, and says where it stopped
-fn play<M: Show>(
-    rt: &HostRuntime,
-    memory: &mut M,
-    script: &[String],
-    start: usize,
-) -> anyhow::Result<usize> {
-    for i in start..script.len() {
-        let line = script[i].as_str();
-        if read_setup(line).is_some() {
-            return Ok(i);
-        }
-        if is_silent(line) {
-            println!(rt; "{line}")?;
-        } else if !play_line(rt, memory, line)? {
-            return Err(anyhow::Error::msg(no_call(rt, i, line)?));
+// makes the calls of these lines
+fn play<M: Show>(rt: &HostRuntime, memory: &mut M, lines: &[Line]) -> anyhow::Result<()> {
+    for line in lines {
+        let number = line.number;
+        let text = line.text.as_str();
+        match line.says {
+            Ok(Says::Nothing) => println!(rt; "{text}")?,
+            Ok(Says::Call(request)) => play_call(rt, memory, text, request)?,
+            _ => bail!("line {number} is no memory call: {text}"),
         }
     }
-    Ok(script.len())
+    Ok(())
+}
+
+// no call can be made here
+fn play_none(rt: &HostRuntime, lines: &[Line]) -> anyhow::Result<()> {
+    for line in lines {
+        let text = line.text.as_str();
+        println!(rt; "{text}")?;
+        let Ok(Says::Nothing) = line.says else {
+            bail!(
+                "a memory comes first: prompt N, loose N, buffer DEPTH prompt N, buffer DEPTH loose N or pile N"
+            );
+        };
+    }
+    Ok(())
 }
 
 fn play_buffered<M: Show + Drop>(
     rt: &HostRuntime,
     below: M,
     depth: usize,
-    script: &[String],
-    start: usize,
-) -> anyhow::Result<usize> {
+    lines: &[Line],
+) -> anyhow::Result<()> {
     match Buffer::new(below, depth) {
-        Ok(buffer) => {
-            let mut buffer = buffer;
-            play(rt, &mut buffer, script, start)
-        }
+        Ok(mut buffer) => play(rt, &mut buffer, lines),
         Err(refusal) => {
             let number = refusal.number();
             println!(rt; "refused {number}: {refusal}")?;
-            Ok(start)
+            play_none(rt, lines)
         }
     }
 }
 
-fn play_on(
-    rt: &HostRuntime,
-    setup: Setup,
-    words: &mut [u64],
-    script: &[String],
-    start: usize,
-) -> anyhow::Result<usize> {
-    match setup {
-        Setup::Plain(Kind::Prompt, _) => play(rt, &mut Prompt::new(words), script, start),
-        Setup::Plain(Kind::Loose, _) => play(rt, &mut Loose::new(words), script, start),
-        Setup::Buffered(depth, Kind::Prompt, _) => play_buffered(
-            rt,
-            Prompt::new(words),
+// each arm makes a memory of another type, on which the same generic code plays
+fn play_on(rt: &HostRuntime, setup: Setup, lines: &[Line]) -> anyhow::Result<()> {
+    let mut words = vec![in rt.alloc(); 0u64; setup.size]?;
+    match setup.stack {
+        Stack::Plain(Kind::Prompt) => play(rt, &mut Prompt::new(&mut words), lines),
+        Stack::Plain(Kind::Loose) => play(rt, &mut Loose::new(&mut words), lines),
+        Stack::Buffered {
             depth,
-            script,
-            start,
-        ),
-        Setup::Buffered(depth, Kind::Loose, _) => play_buffered(
-            rt,
-            Loose::new(words),
+            kind: Kind::Prompt,
+        } => play_buffered(rt, Prompt::new(&mut words), depth, lines),
+        Stack::Buffered {
             depth,
-            script,
-            start,
-        ),
-        Setup::Pile(_) => play(rt, &mut Buffer::pile(words), script, start),
+            kind: Kind::Loose,
+        } => play_buffered(rt, Loose::new(&mut words), depth, lines),
+        Stack::Pile => play(rt, &mut Buffer::pile(&mut words), lines),
     }
 }
 
-// plays from a line that names a memory, or comments, and says where it stopped
-fn play_part(rt: &HostRuntime, script: &[String], at: usize) -> anyhow::Result<usize> {
-    if at >= script.len() {
-        return Ok(at);
-    }
-    let line = script[at].as_str();
-    println!(rt; "{line}")?;
-    if is_silent(line) {
-        return Ok(at + 1);
-    }
-    let Some(setup) = read_setup(line) else {
-        return Err(anyhow!(
-            "a memory comes first: prompt N, loose N, buffer DEPTH prompt N, buffer DEPTH loose N or pile N"
-        ));
+fn play_part(rt: &HostRuntime, part: &[Line]) -> anyhow::Result<()> {
+    let Some((first, calls)) = part.split_first() else {
+        return Ok(());
     };
-    let mut words = vec![in rt.alloc(); 0u64; setup.size()]?;
-    play_on(rt, setup, &mut words, script, at + 1)
+    let Ok(Says::Memory(setup)) = first.says else {
+        return play_none(rt, part);
+    };
+    let text = first.text.as_str();
+    println!(rt; "{text}")?;
+    play_on(rt, setup, calls)
 }
 
-fn read_script(rt: &HostRuntime) -> anyhow::Result<Vec<String>> {
+fn read_script(rt: &HostRuntime) -> anyhow::Result<Vec<Line>> {
     let mut script = Vec::new(rt.alloc());
-    for line in rt.lines(rt.alloc()) {
-        script.push(line?)?;
+    for text in rt.lines(rt.alloc()) {
+        let text = text?;
+        let number = script.len().saturating_add(1);
+        let says = text.parse();
+        script.push(Line { number, text, says })?;
     }
     Ok(script)
 }
 
-/// Reads the script from standard input and plays it.
+/// Reads the script from standard input and plays it, each memory with the lines behind it.
 pub(crate) fn run(rt: &HostRuntime) -> anyhow::Result<()> {
     let script = read_script(rt)?;
-    let mut at = 0;
-    for _ in 0..script.len() {
-        at = play_part(rt, script.as_slice(), at)?;
+    for part in script.chunk_by(|_, line| !line.names_memory()) {
+        play_part(rt, part)?;
     }
     Ok(())
 }

@@ -21,17 +21,16 @@ impl Show for Prompt<'_> {
 }
 
 fn write_waits<W: fmt::Write>(waits: Waits<'_>, f: &mut fmt::Formatter<W>) -> fmt::Result {
-    let mut first = true;
-    for store in waits.stores {
-        if store.barred && !first {
+    for (at, store) in waits.stores.iter().enumerate() {
+        // a bar before the first holds nothing back
+        if store.barred && at > 0 {
             write!(f, " |")?;
         }
         let address = store.address;
         let word = store.word;
         write!(f, " {address}={word}")?;
-        first = false;
     }
-    if waits.fenced && !first {
+    if waits.fenced && !waits.stores.is_empty() {
         write!(f, " |")?;
     }
     Ok(())
@@ -91,10 +90,9 @@ pub struct Changes<'a, 'b> {
 
 impl fmt::Display for Changes<'_, '_> {
     fn fmt<W: fmt::Write>(&self, f: &mut fmt::Formatter<W>) -> fmt::Result {
-        for i in 0..self.now.len() {
-            let word = self.now[i];
-            if i >= self.before.len() || self.before[i] != word {
-                write!(f, " {i}={word}")?;
+        for (at, word) in self.now.iter().enumerate() {
+            if self.before.get(at) != Some(word) {
+                write!(f, " {at}={word}")?;
             }
         }
         Ok(())

@@ -1,9 +1,7 @@
 -- The bytes of an item's word, and that they tell the item.
-use Rattle.std.specs.Prelude.{◌≡◌, ◌≢◌, ℕ, ◌/◌, ◌%◌, ◌^◌, ◌<◌, false, List, [], ◌∷◌, ℤ, pos, Some, None, Option, FitsSigned, ◌==◌, nat_eq, refl}
-use Rattle.std.proofs.Common.{⊎_elim, sym, ap, ◌∙◌, arith, of_z, to_z, ne_eqb}
-use Rattle.std.specs.Int.{w16}
+use Rattle.std.specs.Prelude.{◌≡◌, ◌≢◌, ℕ, ◌/◌, ◌%◌, ◌^◌, ◌<◌, List, [], ◌∷◌, ℤ, pos, Some, None, Option, refl}
+use Rattle.std.proofs.Common.{⊎_elim, sym, ap, ◌∙◌, arith}
 use Rattle.std.proofs.lemmas.Int.{ints, to_z-of_z}
-use Rattle.std.proofs.lemmas.Bool.{cond-false}
 use Rattle.words.specs.declared.edits.Edit.{Edit}
 use Rattle.words.specs.declared.parts.Part.TheVariants.{Value}
 use Rattle.words.specs.declared.readings.Reading.{Reading}
@@ -68,11 +66,7 @@ bits_fit (Some t) h = let k = h t refl in omega (arith, ints)
 
 pub bits_read : (o : Option ℤ) → Measured o → bits_temperature (temperature_bits o) ≡ o
 bits_read None h = refl
-bits_read (Some t) h =
-    let k = h t refl in
-    let f : FitsSigned w16 t = omega (arith, ints) in
-    let n : nat_eq (of_z w16 t) 0x8000 ≡ false = ne_eqb (of_z w16 t) 0x8000 (λ e. omega (arith, ints)) in
-    cond-false (of_z w16 t == 0x8000) None (Some (to_z w16 (of_z w16 t))) n ∙ ap Some (to_z-of_z w16 t f)
+bits_read (Some t) h = let k = h t refl in grind (arith, ints, to_z-of_z)
 
 -- the bytes of a reading's word, from the most significant
 pub record ReadingBytes (x : Reading) (w : ℕ) : Type 0 where

@@ -1,6 +1,6 @@
-//! How items and faults read in text.
+//! How items and faults read in text: by hand, since what a derive prints is not promised.
 ghost use Rattle.std.specs.Prelude.{◌≡◌, Some};
-ghost use Rattle.words.specs.Text.{edit_text, reading_text, ring_text, degrees, part_text, fault_text};
+ghost use Rattle.words.specs.Text.{edit_text, reading_text, ring_text, temperature_text, part_text, fault_text};
 
 use crate::edits::Edit;
 use crate::faults::ItemFault;
@@ -17,10 +17,7 @@ impl fmt::Display for Part {
         match self {
             Part::Deck => f.write_str("deck"),
             Part::Stage => f.write_str("stage"),
-            Part::Value(setting) => {
-                let unit = setting.unit();
-                write!(f, "{setting} in {unit}")
-            }
+            Part::Value(setting) => write!(f, "{setting} in {}", setting.unit()),
             Part::Probe => f.write_str("probe"),
             Part::Tick => f.write_str("tick"),
             Part::Temperature => f.write_str("temperature in tenths of °C"),
@@ -35,9 +32,7 @@ impl fmt::Display for ItemFault {
     fn fmt<W: fmt::Write>(&self, f: &mut fmt::Formatter<W>) -> fmt::Result {
         match self {
             ItemFault::OutOfRange(part) => {
-                let least = part.least();
-                let most = part.most();
-                write!(f, "{part} must be {least} to {most}")
+                write!(f, "{part} must be {} to {}", part.least(), part.most())
             }
             ItemFault::NoItem(_) => f.write_str("this is the word of no such item"),
         }
@@ -50,30 +45,28 @@ impl fmt::Display for Edit {
     ghost output = { λ e. Some (edit_text e) };
 
     fn fmt<W: fmt::Write>(&self, f: &mut fmt::Formatter<W>) -> fmt::Result {
-        let setting = self.setting;
-        let deck = self.deck;
-        let stage = self.stage;
-        let value = self.value;
-        write!(f, "edit {setting} {deck} {stage} {value}")
+        write!(
+            f,
+            "edit {} {} {} {}",
+            self.setting, self.deck, self.stage, self.value
+        )
     }
 }
 
-// Tenths of a degree, as degrees with one place.
+// Tenths of a degree, as degrees with one place; none is `open`.
 #[derive(Clone, Copy)]
-struct Degrees(i16);
+struct Temperature(Option<i16>);
 
-impl fmt::Display for Degrees {
-    ghost output = { λ d. Some (degrees d.0) };
+impl fmt::Display for Temperature {
+    ghost output = { λ t. Some (temperature_text t.0) };
 
     fn fmt<W: fmt::Write>(&self, f: &mut fmt::Formatter<W>) -> fmt::Result {
-        let size = self.0.unsigned_abs();
-        let whole = size / 10;
-        let tenth = size % 10;
-        if self.0 < 0 {
-            write!(f, "-{whole}.{tenth}")
-        } else {
-            write!(f, "{whole}.{tenth}")
-        }
+        let Some(tenths) = self.0 else {
+            return f.write_str("open");
+        };
+        let size = tenths.unsigned_abs();
+        let sign = if tenths < 0 { "-" } else { "" };
+        write!(f, "{sign}{}.{}", size / 10, size % 10)
     }
 }
 
@@ -81,16 +74,12 @@ impl fmt::Display for Reading {
     ghost output = { λ r. Some (reading_text r) };
 
     fn fmt<W: fmt::Write>(&self, f: &mut fmt::Formatter<W>) -> fmt::Result {
-        let deck = self.deck;
-        let probe = self.probe;
-        let tick = self.tick;
-        match self.tenths {
-            None => write!(f, "reading {deck} {probe} {tick} open"),
-            Some(tenths) => {
-                let degrees = Degrees(tenths);
-                write!(f, "reading {deck} {probe} {tick} {degrees}")
-            }
-        }
+        let temperature = Temperature(self.tenths);
+        write!(
+            f,
+            "reading {} {} {} {temperature}",
+            self.deck, self.probe, self.tick
+        )
     }
 }
 
@@ -98,7 +87,6 @@ impl fmt::Display for RingNumber {
     ghost output = { λ n. Some (ring_text n) };
 
     fn fmt<W: fmt::Write>(&self, f: &mut fmt::Formatter<W>) -> fmt::Result {
-        let number = self.number;
-        write!(f, "ring {number}")
+        write!(f, "ring {}", self.number)
     }
 }

@@ -24,14 +24,11 @@ impl Edit {
             (λ e. (e.setting ≡ setting) × (pos e.deck ≡ deck) × (pos e.stage ≡ stage) × (pos e.value ≡ value))
             (λ f. FirstOut (edit_numbers setting deck stage value) f) }
     {
-        Part::Deck.check(deck)?;
-        Part::Stage.check(stage)?;
-        Part::Value(setting).check(value)?;
         Ok(Edit {
             setting,
-            deck: deck as u8,
-            stage: stage as u8,
-            value: value as u32,
+            deck: Part::Deck.narrow(deck)?,
+            stage: Part::Stage.narrow(stage)?,
+            value: Part::Value(setting).narrow(value)?,
         })
     }
 }

@@ -28,7 +28,7 @@ impl Kind for Edit {
     fn to_word(self) -> u64 {
         let [v3, v2, v1, v0] = self.value.to_be_bytes();
         u64::from_be_bytes([
-            self.setting.code(),
+            self.setting.into(),
             self.deck,
             self.stage,
             0,
@@ -40,38 +40,28 @@ impl Kind for Edit {
     }
 
     fn read(w: u64) -> Result<Edit, ItemFault> {
-        let [code, deck, stage, zero, v3, v2, v1, v0] = w.to_be_bytes();
-        let Some(setting) = Setting::from_code(code) else {
-            return Err(ItemFault::NoItem(w));
+        let no_item = ItemFault::NoItem(w);
+        let [code, deck, stage, 0, v3, v2, v1, v0] = w.to_be_bytes() else {
+            return Err(no_item);
         };
-        if zero != 0 {
-            return Err(ItemFault::NoItem(w));
-        }
+        let Ok(setting) = Setting::try_from(code) else {
+            return Err(no_item);
+        };
         let value = u32::from_be_bytes([v3, v2, v1, v0]);
-        match Edit::new(setting, i64::from(deck), i64::from(stage), i64::from(value)) {
-            Ok(edit) => Ok(edit),
-            Err(_) => Err(ItemFault::NoItem(w)),
-        }
+        Edit::new(setting, deck.into(), stage.into(), value.into()).map_err(|_| no_item)
     }
 }
 
 fn bits_of(tenths: Option<i16>) -> u16
     ensures { result ≡ temperature_bits tenths }
 {
-    match tenths {
-        None => OPEN,
-        Some(t) => t.cast_unsigned(),
-    }
+    tenths.map_or(OPEN, i16::cast_unsigned)
 }
 
 fn tenths_of(bits: u16) -> Option<i64>
     ensures { result ≡ bits_temperature bits }
 {
-    if bits == OPEN {
-        None
-    } else {
-        Some(i64::from(bits.cast_signed()))
-    }
+    (bits != OPEN).then(|| bits.cast_signed().into())
 }
 
 impl Kind for Reading {
@@ -90,16 +80,13 @@ impl Kind for Reading {
     }
 
     fn read(w: u64) -> Result<Reading, ItemFault> {
-        let [code, deck, probe, zero, t1, t0, d1, d0] = w.to_be_bytes();
-        if code != READING || zero != 0 {
-            return Err(ItemFault::NoItem(w));
-        }
+        let no_item = ItemFault::NoItem(w);
+        let [READING, deck, probe, 0, t1, t0, d1, d0] = w.to_be_bytes() else {
+            return Err(no_item);
+        };
         let tick = u16::from_be_bytes([t1, t0]);
         let tenths = tenths_of(u16::from_be_bytes([d1, d0]));
-        match Reading::new(i64::from(deck), i64::from(probe), i64::from(tick), tenths) {
-            Ok(reading) => Ok(reading),
-            Err(_) => Err(ItemFault::NoItem(w)),
-        }
+        Reading::new(deck.into(), probe.into(), tick.into(), tenths).map_err(|_| no_item)
     }
 }
 
@@ -117,12 +104,8 @@ impl Kind for RingNumber {
     }
 
     fn read(w: u64) -> Result<RingNumber, ItemFault> {
-        let Ok(number) = i64::try_from(w) else {
-            return Err(ItemFault::NoItem(w));
-        };
-        match RingNumber::new(number - 1) {
-            Ok(ring) => Ok(ring),
-            Err(_) => Err(ItemFault::NoItem(w)),
-        }
+        let no_item = ItemFault::NoItem(w);
+        let number = i64::try_from(w).map_err(|_| no_item)?;
+        RingNumber::new(number - 1).map_err(|_| no_item)
     }
 }

@@ -17,4 +17,4 @@ pub use kinds::Kind;
 pub use parts::Part;
 pub use readings::Reading;
 pub use rings::RingNumber;
-pub use settings::Setting;
+pub use settings::{Setting, UnknownSetting};

@@ -18,16 +18,10 @@ pub struct Reading {
     ghost measured: { Measured tenths },
 }
 
-fn check_temperature(tenths: Option<i64>) -> Result<Option<i16>, ItemFault>
+fn narrow_temperature(tenths: Option<i64>) -> Result<Option<i16>, ItemFault>
     ensures { MatchResult result (λ t. (t ≡ tenths) × Measured tenths) (λ f. FirstOut (temperature_numbers tenths) f) }
 {
-    match tenths {
-        None => Ok(None),
-        Some(t) => {
-            Part::Temperature.check(t)?;
-            Ok(Some(t as i16))
-        }
-    }
+    tenths.map(|t| Part::Temperature.narrow(t)).transpose()
 }
 
 impl Reading {
@@ -37,15 +31,11 @@ impl Reading {
             (λ x. (pos x.deck ≡ deck) × (pos x.probe ≡ probe) × (pos x.tick ≡ tick) × (x.tenths ≡ tenths))
             (λ f. FirstOut (reading_numbers deck probe tick tenths) f) }
     {
-        Part::Deck.check(deck)?;
-        Part::Probe.check(probe)?;
-        Part::Tick.check(tick)?;
-        let tenths = check_temperature(tenths)?;
         Ok(Reading {
-            deck: deck as u8,
-            probe: probe as u8,
-            tick: tick as u16,
-            tenths,
+            deck: Part::Deck.narrow(deck)?,
+            probe: Part::Probe.narrow(probe)?,
+            tick: Part::Tick.narrow(tick)?,
+            tenths: narrow_temperature(tenths)?,
         })
     }
 }

@@ -18,9 +18,8 @@ impl RingNumber {
     pub fn new(number: i64) -> Result<RingNumber, ItemFault>
         ensures { MatchResult result (λ x. pos x.number ≡ number) (λ f. FirstOut (ring_numbers number) f) }
     {
-        Part::Ring.check(number)?;
         Ok(RingNumber {
-            number: number as u8,
+            number: Part::Ring.narrow(number)?,
         })
     }
 }

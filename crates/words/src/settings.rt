@@ -1,8 +1,10 @@
 //! What an edit sets.
-ghost use Rattle.std.specs.Prelude.{◌≡◌, Some, MatchOption, ◌≢◌};
+ghost use Rattle.std.specs.Prelude.{◌≡◌, ◌≢◌, Some, MatchResult, codes};
 ghost use Rattle.words.specs.Settings.{code, name, unit};
 
+use std::error::Error;
 use std::fmt;
+use std::str::FromStr;
 
 /// What a recipe edit sets at one stage of one deck.
 #[derive(Clone, Copy, Debug, PartialEq, Eq)]
@@ -19,42 +21,56 @@ pub enum Setting {
     StageTime = 5,
 }
 
-impl Setting {
-    /// The number that stands for the setting in an edit's word.
-    pub fn code(self) -> u8
-        ensures { result ≡ code self }
-    {
-        self as u8
-    }
+/// No setting has this code or name.
+#[derive(Clone, Copy, Debug, PartialEq, Eq)]
+pub struct UnknownSetting;
 
-    /// The setting with this code, if there is one.
-    pub fn from_code(n: u8) -> Option<Setting>
-        ensures { MatchOption result ((s : Setting) → code s ≢ n) (λ s. code s ≡ n) }
-    {
+/// The number that stands for the setting in an edit's word.
+impl From<Setting> for u8 {
+    ghost from_gives = { λ s n. n ≡ code s };
+
+    fn from(setting: Setting) -> u8 {
+        setting as u8
+    }
+}
+
+/// The setting with this code.
+impl TryFrom<u8> for Setting {
+    type Error = UnknownSetting;
+
+    ghost try_from_gives = { λ n r. MatchResult r (λ s. code s ≡ n) (λ _. (s : _) → code s ≢ n) };
+
+    fn try_from(n: u8) -> Result<Setting, UnknownSetting> {
         match n {
-            1 => Some(Setting::TopHeat),
-            2 => Some(Setting::BottomHeat),
-            3 => Some(Setting::Steam),
-            4 => Some(Setting::Damper),
-            5 => Some(Setting::StageTime),
-            _ => None,
+            1 => Ok(Setting::TopHeat),
+            2 => Ok(Setting::BottomHeat),
+            3 => Ok(Setting::Steam),
+            4 => Ok(Setting::Damper),
+            5 => Ok(Setting::StageTime),
+            _ => Err(UnknownSetting),
         }
     }
+}
 
-    /// The setting of this name, if there is one.
-    pub fn from_name(text: &str) -> Option<Setting>
-        ensures { MatchOption result ((s : Setting) → name s ≢ text.now) (λ s. name s ≡ text.now) }
-    {
+/// The setting of this name.
+impl FromStr for Setting {
+    type Err = UnknownSetting;
+
+    ghost from_str_gives = { λ text r. MatchResult r (λ s. name s ≡ text) (λ _. (s : _) → name s ≢ text) };
+
+    fn from_str(text: &str) -> Result<Setting, UnknownSetting> {
         match text {
-            "top-heat" => Some(Setting::TopHeat),
-            "bottom-heat" => Some(Setting::BottomHeat),
-            "steam" => Some(Setting::Steam),
-            "damper" => Some(Setting::Damper),
-            "stage-time" => Some(Setting::StageTime),
-            _ => None,
+            "top-heat" => Ok(Setting::TopHeat),
+            "bottom-heat" => Ok(Setting::BottomHeat),
+            "steam" => Ok(Setting::Steam),
+            "damper" => Ok(Setting::Damper),
+            "stage-time" => Ok(Setting::StageTime),
+            _ => Err(UnknownSetting),
         }
     }
+}
 
+impl Setting {
     /// The name that stands for the setting in text.
     pub fn name(self) -> &'static str
         ensures { result.now ≡ name self }
@@ -73,8 +89,7 @@ impl Setting {
         ensures { result.now ≡ unit self }
     {
         match self {
-            Setting::TopHeat => "°C",
-            Setting::BottomHeat => "°C",
+            Setting::TopHeat | Setting::BottomHeat => "°C",
             Setting::Steam => "ms",
             Setting::Damper => "%",
             Setting::StageTime => "s",
@@ -89,3 +104,13 @@ impl fmt::Display for Setting {
         f.write_str(self.name())
     }
 }
+
+impl fmt::Display for UnknownSetting {
+    ghost output = { λ _. Some (codes "no such setting") };
+
+    fn fmt<W: fmt::Write>(&self, f: &mut fmt::Formatter<W>) -> fmt::Result {
+        f.write_str("no such setting")
+    }
+}
+
+impl Error for UnknownSetting {}

@@ -1,18 +1,14 @@
-use Rattle.book.proofs.Finishing.{stop_within, fault_within, ran}
+use Rattle.book.proofs.Finishing.{stop_within, fault_within, calls_few, early}
 use Rattle.book.proofs.books.run_book.Goals as goal
 
-pub stopped-requires : goal.stopped-requires
-stopped-requires c =
-    let k = c.in-Ok.ensures in
-    stop_within c.args.book.now c.in-Ok.plan k.planned k.judged c.in-Ok-run_plan.tally c.run_plan.new.log c.in-Ok-run_plan.ensures
+pub shared_ref_as_front-result : goal.shared_ref_as_front-result
+shared_ref_as_front-result c = calls_few c.args.book.now c.in-Ok.plan c.in-Ok-run_plan.tally c.run_plan.new.log c.in-Ok-run_plan.ensures
 
-pub refused-requires : goal.refused-requires
-refused-requires c =
-    let k = c.in-Ok.ensures in
-    fault_within c.args.book.now c.in-Ok.plan k.planned k.judged c.in-Err-run_plan.fault c.run_plan.new.log c.in-Err-run_plan.ensures
+pub end_of-requires : goal.end_of-requires
+end_of-requires c = stop_within c.args.book.now c.in-Ok.plan c.in-Ok.ensures.planned c.in-Ok-run_plan.tally c.run_plan.new.log c.in-Ok-run_plan.ensures
 
-pub returns-in-Ok-run_plan : goal.returns-in-Ok-run_plan
-returns-in-Ok-run_plan c =
-    let k = c.in-Ok.ensures in
-    let l = ran c.args.book.now c.in-Ok.plan k.planned k.judged c.in-Ok-run_plan.tally c.in-Ok-run_plan.ensures c.stopped.ensures.calls c.stopped.ensures.end in
-    record { few = l.few; early = l.early; outcome = l.outcome }
+pub run_refusal-requires : goal.run_refusal-requires
+run_refusal-requires c = fault_within c.args.book.now c.in-Ok.plan c.in-Ok.ensures.planned c.in-Err-run_plan.fault c.run_plan.new.log c.in-Err-run_plan.ensures
+
+pub returns-in-Ok-run_plan-clause-early : goal.returns-in-Ok-run_plan-clause-early
+returns-in-Ok-run_plan-clause-early c = early c.args.book.now c.in-Ok.plan c.in-Ok.ensures.planned c.in-Ok-run_plan.tally c.run_plan.new.log c.in-Ok-run_plan.ensures

@@ -3,4 +3,4 @@ use Rattle.book.specs.ItemWords.{first_words}
 use Rattle.book.proofs.item_words.read_words.Given as goal
 
 abbrev pub invariant-loop-i : goal.invariant-loop-i
-invariant-loop-i l = take l.i l.words ≡ first_words l.i l.part
+invariant-loop-i l = take l.i l.place ≡ first_words l.i l.part

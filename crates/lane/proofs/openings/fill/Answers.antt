@@ -9,4 +9,4 @@ loop-a-init g c = (bare_start, refl)
 pub loop-a-preserved : goal.loop-a-preserved
 loop-a-preserved g c =
     let h = c.in_default.ensures in
-    (one_more c.loop-a.invariant.0 (rw c.first_word-w.ensures at h), made_extent g.M.Memory h ∙ c.loop-a.invariant.1)
+    (one_more c.loop-a.invariant.0 (rw c.first_word.ensures at h), made_extent g.M.Memory h ∙ c.loop-a.invariant.1)

@@ -1,14 +1,11 @@
-use Rattle.std.proofs.Common.{true, arith}
-use Rattle.memory.proofs.Lines.{ready_hit, ready_miss, ready_all}
+use Rattle.std.proofs.Common.{rules, length}
+use borrow.Author.Tests.{tests}
+use Rattle.std.proofs.lemmas.Iterator.{YieldsList-from_range}
+use Rattle.std.proofs.lemmas.Iterator.Consumers.{nth_from_yields_List, YieldsList-from_filter}
+use Rattle.memory.proofs.Lines.{lands, numbered_at}
 use Rattle.memory.proofs.line.place_of.Goals as goal
-use Rattle.memory.proofs.line.place_of.Goals.{then-can_land+else-ready-k, else-can_land}
 
-pub loop-i-preserved : goal.loop-i-preserved
-loop-i-preserved c =
-    elim c.if-can_land.branch [
-      | then-can_land+else-ready-k w ↦ let more = ready_hit c.args.waiting.now c.loop-i.i c.can_land.result (omega arith) c.can_land.ensures w.if-can_land.true in (omega (arith, w.ready-is, more, c.loop-i.invariant.0), omega (arith, w.ready-is), omega (arith, w.ready-is, w.if-ready-k.false))
-      | else-can_land w ↦ let same = ready_miss c.args.waiting.now c.loop-i.i c.can_land.result (omega arith) c.can_land.ensures w.if-can_land.false in (omega (arith, w.ready-is, same, c.loop-i.invariant.0), omega (arith, w.ready-is), omega (arith, w.ready-is))
-    ]
-
-pub unreachable-requires : goal.unreachable-requires
-unreachable-requires c = let all = ready_all c.args.waiting.now true c.loop-i.i (omega arith) in omega (arith, all, c.loop-i.invariant.0, c.loop-i.invariant.2)
+pub returns : goal.returns
+returns c =
+    let n = length c.args.waiting.now in
+    numbered_at c.args.waiting.now c.args.k c.nth.result (nth_from_yields_List c.nth.result _ c.args.k c.nth.ensures.ran (YieldsList-from_filter _ (lands c.args.waiting.now) (YieldsList-from_range 0 n n c.filter.ensures.source (search rules)) c.filter.ensures.closure (λ x b q k. search (rules, tests))))

@@ -1,17 +1,14 @@
-use Rattle.std.proofs.Common.{ℕ, Bool, cond, get_or, Option, unwrap_or, sym, ap, ◌∙◌, arith, eq-eqb, ne_eqb}
-use Rattle.memory.specs.Line.{blank}
-use Rattle.memory.proofs.Lines.{seen_in, seen_more, seen_all}
+use Rattle.std.proofs.Common.{◌≡◌, rules, unwrap_or, ap, ◌∙◌, arith}
+use borrow.Author.Tests.{tests}
+use Rattle.std.specs.Option.{option_map}
+use Rattle.std.proofs.lemmas.Iterator.Adapters.{YieldsList-from_rev_slice}
+use Rattle.std.proofs.lemmas.Iterator.Search.{find_from_yields_List}
+use Rattle.std.proofs.lemmas.Grind.{common_steps}
+use Rattle.memory.proofs.Lines.{youngest_to, youngest_seen}
 use Rattle.memory.proofs.line.youngest.Goals as goal
-use Rattle.memory.proofs.line.youngest.Goals.{then-waiting-i, else-waiting-i}
-
-pub loop-i-preserved : goal.loop-i-preserved
-loop-i-preserved c x =
-    let l = c.args.waiting.now in let i = c.loop-i.i in let a = c.args.address in
-    let more = seen_more l i a x (omega arith) in
-    elim c.if-waiting-i.branch [
-      | then-waiting-i w ↦ ap (λ (o : Option ℕ). unwrap_or o x) w.found-is ∙ sym (more ∙ ap (λ (b : Bool). cond b (get_or l i blank).word (seen_in l i a x)) (eq-eqb (get_or l i blank).address a w.if-waiting-i.true))
-      | else-waiting-i w ↦ ap (λ (o : Option ℕ). unwrap_or o x) w.found-is ∙ (c.loop-i.invariant x ∙ sym (more ∙ ap (λ (b : Bool). cond b (get_or l i blank).word (seen_in l i a x)) (ne_eqb (get_or l i blank).address a w.if-waiting-i.false)))
-    ]
 
 pub returns : goal.returns
-returns c f w = c.loop-i.invariant w ∙ seen_all c.args.waiting.now f c.loop-i.i c.args.address w (omega arith)
+returns c f w =
+    let found : option_map (λ v. v.now) c.find.result ≡ youngest_to c.args.address c.args.waiting.now = find_from_yields_List _ c.find.new.self _ c.find.result c.find.ensures.ran (YieldsList-from_rev_slice c.args.waiting.now cc) (λ x b q k. search (rules, tests)) in
+    let word : c.map.result ≡ option_map (λ v. v.word) (option_map (λ v. v.now) c.find.result) = grind (arith, common_steps) in
+    ap (λ o. unwrap_or o w) (word ∙ ap (option_map (λ v. v.word)) found) ∙ youngest_seen c.args.address c.args.waiting.now f w

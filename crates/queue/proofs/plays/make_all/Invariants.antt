@@ -1,10 +1,7 @@
-use Rattle.std.proofs.Common.{◌≡◌, ◌-◌, ◌≤◌, length, take}
+use Rattle.std.proofs.Common.{◌≤◌, length, take}
 use Rattle.lane.specs.Moments.{moment}
-use Rattle.queue.specs.InPlay.{Roomy, Noted}
+use Rattle.queue.specs.InPlay.{Noted}
 use Rattle.queue.proofs.plays.make_all.Given as goal
 
 abbrev pub invariant-loop-i : goal.invariant-loop-i
-invariant-loop-i g l = Noted g.M.Memory g.K.Kind (moment l.initial.play.lane) (take l.i l.moves) l.initial.place l.place (moment l.play.lane) × Roomy g.M.Memory g.K.Kind (moment l.play.lane) × (l.i ≤ length l.moves) × (l.i ≤ length l.place) × (length l.place ≡ length l.initial.place)
-
-abbrev pub decreases-loop-i : goal.decreases-loop-i
-decreases-loop-i g l = length l.moves - l.i
+invariant-loop-i g l = Noted g.M.Memory g.K.Kind (moment l.initial.play.lane) (take l.i l.moves) l.initial.place l.place (moment l.play.lane) × (l.i ≤ length l.moves)

@@ -1,25 +1,33 @@
-use Rattle.std.proofs.Common.{sym, ap, ◌∙◌}
+use Rattle.std.proofs.Common.{refl, sym, ap, ◌∙◌}
 use Rattle.lane.specs.Stages.{putting}
-use Rattle.queue.proofs.Histories.{take_stays, take_aside, drawn_turn, turn_made}
+use Rattle.lane.specs.Moments.{Moment}
+use Rattle.lane.proofs.Underway.{take_ends}
+use Rattle.queue.specs.Plays.{take_said}
+use Rattle.queue.specs.Turns as turn
+use Rattle.queue.proofs.EndTurns.{said_as, end_fits}
+use Rattle.queue.proofs.Histories.{take_stays}
 use Rattle.queue.proofs.turns.draw.Goals as goal
 
-pub draw_step-end-requires : goal.draw_step-end-requires
-draw_step-end-requires g c =
-    let t = c.in-Ok.ensures in
-    let s = take_stays t.1 in
-    (t.0 ∙ sym s.number, s.busy)
+pub unreachable-requires : goal.unreachable-requires
+unreachable-requires g c =
+    let b = c.drawing-busy.ensures in
+    let s = take_stays b.1 in
+    let h = c.in_default.ensures in
+    h.unfit (b.0 ∙ sym s.number, s.busy)
 
-pub invariant_of-result-2 : goal.invariant_of-result-2
-invariant_of-result-2 g c =
-    let s = take_stays c.in-Ok.ensures.1 in
-    let p = take_aside g.M.Memory g.K.Kind c.draw_step-end.result.said _ _ c.draw_step-end.ensures.step in
-    let f = c.args.play.feeder_fits in
+pub invariant_of-result : goal.invariant_of-result
+invariant_of-result g c =
+    let b = c.drawing-busy.ensures in
+    let s = take_stays b.1 in
+    let h = c.in-Ok.ensures in
+    let n = ap (λ (q : Moment _ _). q.number) h.step.after in
+    let o = c.args.play.feeder_fits in
     record {
-      feeder_fits = (f.0 ∙ sym s.number ∙ sym p.0, f.1 ∙ sym (ap (λ e. putting e.stage) (p.1 ∙ s.feeder)));
-      drawer_fits = c.draw_step-end.ensures.fits;
+      drawer_fits = end_fits c.in-Ok.stepped c.turn_end-drawer.ensures.end h.same_lane (b.0 ∙ sym s.number) n (take_ends g.M.Memory g.K.Kind _ _ h.step.row);
+      feeder_fits = (o.0 ∙ sym s.number ∙ sym n, o.1 ∙ sym (ap (λ e. putting e.stage) (ap (λ (q : Moment _ _). q.feeder) h.step.after ∙ s.feeder)));
     }
 
 pub returns : goal.returns
 returns g c =
-    let t = drawn_turn g.M.Memory g.K.Kind c.draw_step-end.result.said _ c.in-Ok.ensures.1 c.draw_step-end.ensures.step in
-    record { turn = t; in_room = turn_made g.M.Memory g.K.Kind _ c.draw_step-end.result.said _ _ t }
+    let h = c.in-Ok.ensures in
+    turn.Turn.draws c.drawing-busy.ensures.1 (record { answer = _; step = h.step; says = said_as _ take_said refl (λ a s h. h.1) _ _ c.turn_end-drawer.ensures.said })

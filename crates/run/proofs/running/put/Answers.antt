@@ -1,12 +1,13 @@
 use Rattle.std.proofs.Common.{sym, ◌∙◌, leb-false, leb-true}
 use Rattle.run.proofs.Moving.{put_rests, put_full, put_comes}
+use Rattle.run.proofs.Turning.{fed_on}
 use Rattle.run.proofs.running.put.Goals as goal
 
-pub returns-then-counts-words : goal.returns-then-counts-words
-returns-then-counts-words g c = put_rests g.M.Memory g.K.Kind c.args.words.now c.args.index _ c.args.counts c.args.log.now c.if-counts-words.true
+pub returns-in_default : goal.returns-in_default
+returns-in_default g c = put_rests g.M.Memory g.K.Kind c.args.offer.now.words.now c.args.index _ c.args.counts c.args.log.now c.in_default.ensures
 
 pub returns-then-is_full : goal.returns-then-is_full
-returns-then-is_full g c = put_full g.M.Memory g.K.Kind c.args.words.now c.args.index _ c.args.counts c.args.log.now c.if-counts-words.false (leb-true _ _ (sym c.is_full.ensures ∙ c.if-is_full.true))
+returns-then-is_full g c = put_full g.M.Memory g.K.Kind c.args.offer.now.words.now c.args.index _ c.args.counts c.args.log.now c.in-Some.ensures.0 (leb-true _ _ (sym c.is_full.ensures ∙ c.if-is_full.true))
 
 pub returns : goal.returns
-returns g c = put_comes g.M.Memory g.K.Kind c.args.words.now c.args.index _ c.args.counts c.args.log.now c.note_put-counts.result _ _ c.if-counts-words.false c.item_at-item.ensures (leb-false _ _ (sym c.is_full.ensures ∙ c.if-is_full.false)) c.feed-play.ensures c.note_put-counts.ensures
+returns g c = put_comes g.M.Memory g.K.Kind c.args.offer.now.words.now c.args.index _ c.args.counts c.args.log.now c.note_put-counts.result _ _ c.in-Some.ensures.0 c.in-Some.ensures.1 (leb-false _ _ (sym c.is_full.ensures ∙ c.if-is_full.false)) (fed_on g.M.Memory g.K.Kind _ c.make-play.ensures) c.note_put-counts.ensures

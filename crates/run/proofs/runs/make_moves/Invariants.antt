@@ -1,10 +1,7 @@
-use Rattle.std.proofs.Common.{◌≡◌, ◌-◌, ◌≤◌, length, take}
+use Rattle.std.proofs.Common.{◌≡◌, length, take}
 use Rattle.lane.specs.Moments.{moment}
 use Rattle.run.specs.Running.{RunSoFar}
 use Rattle.run.proofs.runs.make_moves.Given as goal
 
 abbrev pub invariant-loop-index : goal.invariant-loop-index
-invariant-loop-index g l = RunSoFar g.M.Memory g.K.Kind (moment l.initial.play.lane) l.words (take l.index l.moves) l.initial.log l.log l.counts (moment l.play.lane) × (l.index ≤ length l.moves) × (length l.log ≡ length l.initial.log)
-
-abbrev pub decreases-loop-index : goal.decreases-loop-index
-decreases-loop-index g l = length l.moves - l.index
+invariant-loop-index g l = RunSoFar g.M.Memory g.K.Kind (moment l.initial.play.lane) l.offer.words.now (take l.index l.moves) l.initial.log l.log l.counts (moment l.play.lane) × (length l.log ≡ length l.initial.log)

@@ -7,11 +7,11 @@ use Rattle.memory.proofs.buffer.BufferMemory.look.Goals as goal
 
 pub returns-in-Some : goal.returns-in-Some
 returns-in-Some g c =
-    buffer_made g.M.Memory (Look c.args.side c.args.address c.in-Some.word) c.args.self.now (record { below = c.size.new.self; depth = c.args.self.now.depth; feeder = c.args.self.now.feeder; drawer = c.args.self.now.drawer })
-    (own_store c.if-address-size.false (sym (c.find_newest.ensures ∙ ap (newest c.args.address) c.entries.ensures) ∙ c.in-Some.is) c.size.ensures refl)
+    buffer_made g.M.Memory (Look c.args.side c.args.address c.in-Some.word) c.args.self.now _
+    (own_store c.in_ok-check.ensures (sym (c.find_newest.ensures ∙ ap (newest c.args.address) c.entries.ensures.kept) ∙ c.in-Some.is) c.size.ensures refl)
 
-pub returns : goal.returns
-returns g c =
-    looked_below g.M.Memory c.args.side c.args.address c.size.result c.args.self.now c.size.new.self c.look.new.self c.look.result
-    (sym (c.find_newest.ensures ∙ ap (newest c.args.address) c.entries.ensures) ∙ c.in_default.is)
-    c.size.ensures c.look.ensures
+pub returns-in-None : goal.returns-in-None
+returns-in-None g c =
+    looked_below g.M.Memory c.args.side c.args.address c.size.result c.args.self.now _ c.size.new.self c.look.result
+    (sym (c.find_newest.ensures ∙ ap (newest c.args.address) c.entries.ensures.kept) ∙ c.in-None.is)
+    c.size.ensures c.look.ensures refl

@@ -5,4 +5,4 @@ use Rattle.memory.proofs.buffer.BufferMemory.store.Goals as goal
 pub returns : goal.returns
 returns g c =
     buffer_made g.M.Memory (Store c.args.side c.args.address c.args.word) c.args.self.now c.join.new.self
-    (record { size = c.size.result; between = c.size.new.self; sized = c.size.ensures; within = c.if-address-size.false; joins = c.join.ensures })
+    (record { size = c.size.result; between = c.size.new.self; sized = c.size.ensures; within = c.in_ok-check.ensures; joins = c.join.ensures })

@@ -5,4 +5,4 @@ use Rattle.memory.proofs.loose.Loose.land_oldest.Goals as goal
 pub returns : goal.returns
 returns c =
     let o = lands_oldest c.args.side c.args.self.now (loose_meaning c.land_one.new.self) c.requires c.land_one.ensures.means in
-    record { means = o; fewer = oldest_fewer c.args.side (loose_meaning c.args.self.now) (loose_meaning c.land_one.new.self) o; owner = c.land_one.ensures.owner }
+    record { lands = record { means = o; owner = c.land_one.ensures.owner }; fewer = oldest_fewer c.args.side (loose_meaning c.args.self.now) (loose_meaning c.land_one.new.self) o }

@@ -3,4 +3,4 @@ use Rattle.memory.proofs.Looses.{loose_made}
 use Rattle.memory.proofs.loose.LooseMemory.drain.Goals as goal
 
 pub returns : goal.returns
-returns c = loose_made Drain c.args.self.now c.land_both.new.self c.land_both.ensures.means c.land_both.ensures.owner
+returns c = loose_made Drain _ _ c.land_both.ensures

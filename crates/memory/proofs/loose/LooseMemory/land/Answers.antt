@@ -3,4 +3,4 @@ use Rattle.memory.proofs.Looses.{loose_made}
 use Rattle.memory.proofs.loose.LooseMemory.land.Goals as goal
 
 pub returns : goal.returns
-returns c = loose_made (Land c.args.side c.args.pick) c.args.self.now c.land_one.new.self c.land_one.ensures.means c.land_one.ensures.owner
+returns c = loose_made (Land c.args.side c.args.pick) _ _ c.land_one.ensures

@@ -1,0 +1,35 @@
+//! The memory calls of a lane: its memory has every address that they name.
+ghost use Rattle.std.specs.Prelude.{◌≡◌, ◌<◌, length};
+ghost use Rattle.memory.specs.Meaning.{Look, Store, Bar};
+ghost use Rattle.lane.specs.Calls.{Makes};
+
+use memory::{Memory, Side};
+
+pub(crate) fn look<M: Memory>(memory: &mut M, side: Side, address: usize) -> u64
+    requires { address < length (M.Memory.meaning memory.old).landed }
+    ensures call { Makes M.Memory (Look side address result) memory.old memory.new }
+    ensures size { length (M.Memory.meaning memory.new).landed ≡ length (M.Memory.meaning memory.old).landed }
+{
+    match memory.look(side, address) {
+        Ok(word) => word,
+        Err(_) => unreachable!(),
+    }
+}
+
+pub(crate) fn store<M: Memory>(memory: &mut M, side: Side, address: usize, word: u64)
+    requires { address < length (M.Memory.meaning memory.old).landed }
+    ensures call { Makes M.Memory (Store side address word) memory.old memory.new }
+    ensures size { length (M.Memory.meaning memory.new).landed ≡ length (M.Memory.meaning memory.old).landed }
+{
+    match memory.store(side, address, word) {
+        Ok(()) => {}
+        Err(_) => unreachable!(),
+    }
+}
+
+pub(crate) fn bar<M: Memory>(memory: &mut M, side: Side)
+    ensures call { Makes M.Memory (Bar side) memory.old memory.new }
+    ensures size { length (M.Memory.meaning memory.new).landed ≡ length (M.Memory.meaning memory.old).landed }
+{
+    memory.bar(side);
+}

@@ -1,6 +1,0 @@
-use Rattle.std.proofs.Common.{arith}
-use Rattle.listing.proofs.Writing.{part_more}
-use Rattle.listing.proofs.lines.append_item.Goals as goal
-
-pub returns : goal.returns
-returns c = part_more (omega arith) c.put_item.ensures
