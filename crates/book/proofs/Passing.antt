@@ -1,6 +1,8 @@
 -- What checks that refuse nothing say of the book.
-use Rattle.std.proofs.Common.{◌≡◌, ℕ, ◌%◌, ◌≤◌, Bool, true, false, cond, ◌&&◌, leb, List, [], ◌∷◌, length, get_or, drop, Some, None, Option, refl, subst, arith, eqb-true, leb-true}
+use Rattle.std.proofs.Common.{◌≡◌, ℕ, ◌%◌, ◌≤◌, Bool, true, false, cond, ◌&&◌, leb, List, [], ◌∷◌, length, get_or, drop, Some, None, Option, refl, subst, arith, eqb-true, leb-true, sym}
 use Rattle.listing.specs.declared.lines.Refusal.{Refusal}
+use Rattle.std.proofs.lemmas.Bool.{false≢true}
+use Rattle.std.proofs.lemmas.Option.{none-some}
 use Rattle.book.specs.Checks.{Check, first_refusal}
 use Rattle.book.specs.Layout.{WellLaidOut, header_checks, layout_of, stop}
 use Rattle.book.specs.Settings.{settings_checks, Settled, SettingsInRange, entries_of, from_to}
@@ -15,7 +17,7 @@ Passed (c ∷ cs) = (c.holds ≡ true) × Passed cs
 
 both : (b : Bool) (q : Refusal) (x : Option Refusal) (P : Type 0) → (x ≡ None → P) → cond b x (Some q) ≡ None → (b ≡ true) × P
 both true q x P f e = (refl, f e)
-both false q x P f e = absurd (let z : ◌≡◌ {A = ℕ} 0 1 = cc in omega arith)
+both false q x P f e = absurd (none-some q (sym e))
 
 passed : (cs : List Check) → first_refusal cs ≡ None → Passed cs
 passed [] e = tt
@@ -40,7 +42,7 @@ well_laid_out book e =
 
 both_true : (a b : Bool) → a && b ≡ true → (a ≡ true) × (b ≡ true)
 both_true true b e = (refl, e)
-both_true false b e = absurd (let z : ◌≡◌ {A = ℕ} 0 1 = cc in omega arith)
+both_true false b e = absurd (false≢true e)
 
 ranged : (low high n k : ℕ) → from_to low high n ≡ true → k ≡ n → (low ≤ k) × (k ≤ high)
 ranged low high n k e s =

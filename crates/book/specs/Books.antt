@@ -11,13 +11,15 @@ use Rattle.listing.specs.declared.lines.Refusal.{Refusal}
 use Rattle.book.specs.Checks.{first_refusal}
 use Rattle.book.specs.Layout.{layout_of}
 use Rattle.book.specs.Settings.{Settled}
-use Rattle.book.specs.Faults.{run_refusal, stop_refusal}
+use Rattle.book.specs.Faults.{run_byte, run_refusal, stop_refusal}
 use Rattle.book.specs.ItemWords.{words_in}
 use Rattle.book.specs.Plans.{plan_checks, settings_bytes}
 use Rattle.book.specs.Choices.{RunBy, records_in}
 use Rattle.book.specs.declared.header.Layout.{Layout}
 use Rattle.book.specs.declared.header.Part.{Part}
 use Rattle.book.specs.declared.settings.Settings.{Settings}
+use Rattle.book.specs.declared.plans.Plan.{Plan}
+use Rattle.book.specs.declared.faults.BadRun.{BadRun}
 
 -- the bytes of a part
 abbrev pub bytes_of : Part → List ℕ → List ℕ
@@ -69,3 +71,7 @@ pub record Listed (book before after : List ℕ) (count : ℕ) : Type 0 where
 -- the run by a plan
 abbrev pub PlanRun : List ℕ → Settings → Result Tally RunFault → List Record → Type 0
 PlanRun book s r log = RunBy s (book_words book) (book_moves book) r (records_in r log)
+
+-- the run by a plan that does not begin, with the byte that it is refused for
+abbrev pub PlanUnrun : List ℕ → Plan → BadRun → List Record → Type 0
+PlanUnrun book p b log = PlanRun book p.settings (Err b.fault) log × (b.byte ≡ run_byte p.layout b.fault)

@@ -15,10 +15,12 @@ use Rattle.book.specs.declared.faults.BookFault.TheVariants as fault
 abbrev pub book_number : BookFault → ℕ
 book_number (fault.Layout b) = (layout_refusal b).number
 book_number (fault.Setting b) = (setting_refusal b).number
+book_number (fault.Run b) = run_number b.fault
 
 abbrev pub fault_byte : BookFault → ℕ
 fault_byte (fault.Layout b) = (layout_refusal b).byte
 fault_byte (fault.Setting b) = (setting_refusal b).byte
+fault_byte (fault.Run b) = b.byte
 
 -- the refusal of a book's fault
 abbrev pub book_refusal : BookFault → Refusal

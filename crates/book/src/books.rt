@@ -1,21 +1,21 @@
 //! A run book, run and listed.
-ghost use Rattle.std.specs.Prelude.{◌≡◌, ◌<◌, ◌≤◌, [], length, IfSome, unwrap_or};
+ghost use Rattle.std.specs.Prelude.{◌≡◌, ◌<◌, ◌≤◌, [], length, IfSome, IfOk, MatchResult, Ok, unwrap_or};
 ghost use Rattle.listing.specs.Bounds.{Early};
 ghost use Rattle.book.specs.Layout.{stop as stop_of};
-ghost use Rattle.book.specs.Faults.{WithinBook, StopsWithinBook};
+ghost use Rattle.book.specs.Faults.{book_refusal, StopsWithinBook};
 ghost use Rattle.book.specs.Plans.{Planned};
-ghost use Rattle.book.specs.Books.{bytes_of, refused_end, stopped_end, PlanRun, Outcome, Listed};
+ghost use Rattle.book.specs.Books.{bytes_of, refused_end, stopped_end, PlanRun, PlanUnrun, Outcome, Listed};
 
 use crate::choices::{Asked, Log};
-use crate::faults::{run_refusal, stop_refusal};
+use crate::faults::{BadRun, BookFault, bad_run, stop_refusal};
 use crate::header::{Layout, Part};
 use crate::item_words::{Words, read_words};
 use crate::plans::{Plan, read_plan};
 use listing::{End, Refusal, put_listing};
-use run::{Answer, Record, RunFault, Tally};
+use run::{Answer, Record, Tally};
 
 /// A place with so many bytes has room for the listing of any book.
-pub const LISTING_ROOM: usize = 37938;
+pub const LISTING_ROOM: usize = 38000;
 
 fn part_of(book: &[u8], part: Part) -> &[u8]
     requires { stop_of part ≤ length book.now }
@@ -26,9 +26,9 @@ fn part_of(book: &[u8], part: Part) -> &[u8]
 }
 
 // Copies the words out of the book, and makes the run.
-fn run_plan(plan: &Plan, book: &[u8], log: &mut Log) -> Result<Tally, RunFault>
+fn run_plan(plan: &Plan, book: &[u8], log: &mut Log) -> Result<Tally, BadRun>
     requires { Planned book.now plan.now }
-    ensures { PlanRun book.now plan.now.settings result log.new }
+    ensures { MatchResult result (λ t. PlanRun book.now plan.now.settings (Ok t) log.new) (λ b. PlanUnrun book.now plan.now b log.new) }
 {
     let mut place: Words = [0; 8188];
     let asked = Asked {
@@ -36,7 +36,11 @@ fn run_plan(plan: &Plan, book: &[u8], log: &mut Log) -> Result<Tally, RunFault>
         words: read_words(part_of(book, plan.layout.words), &mut place),
         moves: part_of(book, plan.layout.moves),
     };
-    asked.run(log)
+    // no `map_err`, since it could not be shown what its closure needs to know of the fault
+    match asked.run(log) {
+        Ok(tally) => Ok(tally),
+        Err(fault) => Err(bad_run(&plan.layout, fault)),
+    }
 }
 
 /// The records that the run of a book leaves, and its end.
@@ -69,21 +73,19 @@ fn end_of(layout: &Layout, tally: Tally) -> End
     }
 }
 
-fn run_book<'a>(book: &[u8], log: &'a mut Log) -> Summary<'a>
-    ensures few { length result.records.now ≤ 1024 }
-    ensures early { Early result.records.now }
-    ensures outcome { Outcome book.now result.records.now result.end }
+fn run_book<'a>(book: &[u8], log: &'a mut Log) -> Result<Summary<'a>, BookFault>
+    ensures few { IfOk result (λ s. length s.records.now ≤ 1024) }
+    ensures early { IfOk result (λ s. Early s.records.now) }
+    ensures outcome { MatchResult result
+        (λ s. Outcome book.now s.records.now s.end)
+        (λ f. Outcome book.now [] (refused_end (book_refusal f))) }
 {
-    match read_plan(book) {
-        Ok(plan) => match run_plan(&plan, book, log) {
-            Ok(tally) => Summary {
-                records: &log[..tally.calls],
-                end: end_of(&plan.layout, tally),
-            },
-            Err(fault) => refused(run_refusal(&plan.layout, fault)),
-        },
-        Err(fault) => refused(fault.refusal()),
-    }
+    let plan = read_plan(book)?;
+    let tally = run_plan(&plan, book, log)?;
+    Ok(Summary {
+        records: &log[..tally.calls],
+        end: end_of(&plan.layout, tally),
+    })
 }
 
 /// Runs the book and writes the listing of its run to the start of the place; answers the listing's length.
@@ -97,6 +99,9 @@ pub fn bench_listing(book: &[u8], place: &mut [u8]) -> Option<usize>
         answer: Answer::Empty,
         steps: 0,
     }; 1024];
-    let ran = run_book(book, &mut log);
-    put_listing(ran.records, &ran.end, place)
+    let Summary { records, end } = match run_book(book, &mut log) {
+        Ok(ran) => ran,
+        Err(fault) => refused(fault.refusal()),
+    };
+    put_listing(records, &end, place)
 }

@@ -48,7 +48,7 @@ impl Asked<'_> {
             return self.run_on::<K, M>(memory, log);
         };
         let Ok(buffer) = Buffer::new(memory, depth.entries as usize) else {
-            unreachable()
+            unreachable!()
         };
         self.run_on::<K, Buffer<M>>(buffer, log)
     }

@@ -17,6 +17,7 @@ pub enum MemoryKind {
 #[derive(Clone, Copy, Debug, PartialEq, Eq)]
 pub struct UnknownCode;
 
+// by hand, as no derive reads a code; each of the two has its own table
 impl TryFrom<u8> for ItemKind {
     type Error = UnknownCode;
 

@@ -1,19 +1,27 @@
 //! Why a book is refused, and what a baker is told of it.
 ghost use Rattle.std.specs.Prelude.{◌≡◌, ◌+◌, ◌≤◌};
 ghost use Rattle.run.specs.Refusals.{stop_index};
-ghost use Rattle.book.specs.declared.faults.BookFault.TheVariants.{Layout as InLayout, Setting as InSetting};
-ghost use Rattle.book.specs.Faults.{book_number, fault_byte, book_refusal, run_refusal, stop_refusal, WithinBook};
+ghost use Rattle.book.specs.declared.faults.BookFault.TheVariants.{Layout as InLayout, Setting as InSetting, Run as InRun};
+ghost use Rattle.book.specs.Faults.{book_number, fault_byte, book_refusal, run_byte, stop_refusal, WithinBook};
 
 use crate::header::{BadLayout, Layout};
 use crate::settings::BadSetting;
 use listing::Refusal;
 use run::{RunFault, Stop, WordFault};
 
+/// A run that does not begin, and the byte of the book that it is refused for.
+#[derive(Clone, Copy, Debug, PartialEq, Eq)]
+pub struct BadRun {
+    pub fault: RunFault,
+    pub byte: usize,
+}
+
 /// Why a book is not run.
 #[derive(Clone, Copy, Debug, PartialEq, Eq)]
 pub enum BookFault {
     Layout(BadLayout),
     Setting(BadSetting),
+    Run(BadRun),
 }
 
 // By hand, since a derived `From` does not say which fault it makes.
@@ -33,6 +41,14 @@ impl From<BadSetting> for BookFault {
     }
 }
 
+impl From<BadRun> for BookFault {
+    ghost from_gives = { λ e r. r ≡ InRun e };
+
+    fn from(e: BadRun) -> BookFault {
+        BookFault::Run(e)
+    }
+}
+
 impl BookFault {
     /// The number that a baker sees.
     pub fn number(self) -> u8
@@ -41,6 +57,7 @@ impl BookFault {
         match self {
             BookFault::Layout(_) | BookFault::Setting(BadSetting::Unknown { byte: _ }) => 10,
             BookFault::Setting(BadSetting::OutOfRange { byte: _ }) => 3,
+            BookFault::Run(BadRun { fault, byte: _ }) => fault.number(),
         }
     }
 
@@ -50,8 +67,8 @@ impl BookFault {
     {
         match self {
             BookFault::Layout(BadLayout { byte })
-            | BookFault::Setting(BadSetting::Unknown { byte } | BadSetting::OutOfRange { byte }) =>
-                byte,
+            | BookFault::Setting(BadSetting::Unknown { byte } | BadSetting::OutOfRange { byte })
+            | BookFault::Run(BadRun { fault: _, byte }) => byte,
         }
     }
 
@@ -65,19 +82,17 @@ impl BookFault {
     }
 }
 
-/// What a run is refused for before its first move, in a book of this layout.
-pub(crate) fn run_refusal(layout: &Layout, fault: RunFault) -> Refusal
+/// A run that does not begin, in a book of this layout.
+pub(crate) fn bad_run(layout: &Layout, fault: RunFault) -> BadRun
     requires { WithinBook fault }
-    ensures { result ≡ run_refusal layout.now fault }
+    ensures fault { result.fault ≡ fault }
+    ensures byte { result.byte ≡ run_byte layout.now fault }
 {
     let byte = match fault {
         RunFault::Opening(_) => layout.settings.offset as usize,
         RunFault::Word(WordFault { index, fault: _ }) => layout.words.offset as usize + 8 * index,
     };
-    Refusal {
-        number: fault.number(),
-        byte,
-    }
+    BadRun { fault, byte }
 }
 
 /// What stopped a run, with the byte of the move that it stopped at.

@@ -12,7 +12,7 @@ pub(crate) fn read_words<'a>(part: &[u8], place: &'a mut Words) -> &'a [u64]
     ensures { result.now ≡ words_in part.now }
 {
     let (chunks, _) = part.as_chunks::<8>();
-    // by index, since nothing is known of what is written through an adapter of `iter_mut`
+    // by index, since nothing is known of what is written through a `zip` of `iter_mut`
     for (i, bytes) in chunks.iter().enumerate() {
         place[i] = u64::from_le_bytes(*bytes);
     }

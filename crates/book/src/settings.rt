@@ -65,7 +65,7 @@ fn settle(bytes: &[u8], at: usize) -> Result<Settings, BadSetting>
     ensures settled { IfOk result (λ s. Settled bytes.now s) }
 {
     let [kind, rings, cells, memory, entries, ..] = bytes else {
-        unreachable()
+        unreachable!()
     };
     Ok(Settings {
         kind: known(*kind, at)?,

@@ -76,7 +76,7 @@ fn fill_and_empty(rt: &HostRuntime) -> anyhow::Result<()> {
         heat, heat, heat, steam, steam, steam, steam, steam, steam, steam, steam, damper, damper,
         draw, draw, draw, draw, draw, draw, draw, draw, draw, draw, draw, damper, damper, damper,
     ];
-    let mut said = [Said::Nothing; 27];
+    let mut said = moves.map(|_| Said::Nothing);
     hand_over(rt, Prompt::new(&mut [0; 7]), 1, &moves, &mut said)
 }
 
@@ -94,7 +94,7 @@ fn wait_and_land(rt: &HostRuntime) -> anyhow::Result<()> {
         draw,
         draw,
     ];
-    let mut said = [Said::Nothing; 8];
+    let mut said = moves.map(|_| Said::Nothing);
     hand_over(rt, Loose::new(&mut [0; 9]), 2, &moves, &mut said)
 }
 

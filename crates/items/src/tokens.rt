@@ -35,6 +35,7 @@ impl FromStr for Word {
 }
 
 /// A probe's temperature in tenths of °C, none where it is open: degrees with at most one place.
+// any number that can be typed; only a reading has one in range
 #[derive(Clone, Copy)]
 pub struct Temperature(pub Option<i64>);
 

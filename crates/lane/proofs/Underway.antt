@@ -1,6 +1,7 @@
 -- When a call is under way.
-use Rattle.std.proofs.Common.{◌≡◌, ℕ, true, false, not, is_some, Option, sym, refl, ap, ◌∙◌, arith}
+use Rattle.std.proofs.Common.{◌≡◌, ℕ, true, false, not, is_some, Option, sym, refl, ap, ◌∙◌}
 use Rattle.lane.specs.Hands.{Feeder, Drawer}
+use Rattle.std.proofs.lemmas.Bool.{false≢true}
 use Rattle.lane.specs.Stages.{putting, taking}
 use Rattle.memory.specs.declared.Memory as memory
 use Rattle.words.specs.declared.kinds.Kind as kind
@@ -15,7 +16,7 @@ use Rattle.lane.specs.PutTable as puts
 use Rattle.lane.specs.TakeTable as takes
 
 pub no_both : {A : Type 0} → true ≡ false → A
-no_both h = absurd (let z : ◌≡◌ {A = ℕ} 0 1 = cc in omega arith)
+no_both h = absurd (false≢true (sym h))
 
 module _ {K : Type 0} where
   pub idle_put : (s : Put K) → putting s ≡ false → s ≡ put.Idle

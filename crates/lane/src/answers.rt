@@ -55,6 +55,7 @@ impl<K: Kind> TakeAnswer<K> {
     }
 }
 
+// by hand, as an answer is no error that `thiserror` could derive
 impl<K> fmt::Display for PutAnswer<K> {
     fn fmt<W: fmt::Write>(&self, f: &mut fmt::Formatter<W>) -> fmt::Result {
         match self {

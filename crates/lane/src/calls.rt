@@ -4,12 +4,11 @@ ghost use Rattle.lane.specs.Moments.{moment, Landing, Draining};
 ghost use Rattle.lane.specs.Ends.{PutBegun, PutUnbegun, PutMade, PutUnmade, TakeBegun, TakeUnbegun, TakeMade, TakeUnmade};
 
 use crate::ends::{
-    DrawerBusy, DrawerIdle, FeederBusy, FeederIdle, NoPut, NoPutStep, NoStep, NoTake, NoTakeStep,
+    DrawerBusy, DrawerIdle, FeederBusy, FeederIdle, NoPut, NoPutStep, NoTake, NoTakeStep,
     PutStepped, TakeStepped,
 };
 use crate::lanes::Lane;
 use crate::sides::{Put, Take};
-use crate::stands::Stage;
 use memory::{Memory, Side};
 use words::Kind;
 
@@ -29,9 +28,7 @@ impl<K: Kind, M: Memory> Lane<K, M> {
             (λ s. PutMade M.Memory K.Kind (moment self.old) (moment self.new) end s)
             (λ e. PutUnmade (moment self.old) (moment self.new) end e) }
     {
-        if end.lane != self.number || self.feeder.stage.is_idle() {
-            return Err(NoStep { end });
-        }
+        let end = self.feeder.under_way(self.number, end)?;
         Ok(end.after(self.put_row()))
     }
 
@@ -50,9 +47,7 @@ impl<K: Kind, M: Memory> Lane<K, M> {
             (λ s. TakeMade M.Memory K.Kind (moment self.old) (moment self.new) end s)
             (λ e. TakeUnmade (moment self.old) (moment self.new) end e) }
     {
-        if end.lane != self.number || self.drawer.stage.is_idle() {
-            return Err(NoStep { end });
-        }
+        let end = self.drawer.under_way(self.number, end)?;
         Ok(end.after(self.take_row()))
     }
 

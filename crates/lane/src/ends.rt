@@ -48,6 +48,7 @@ pub struct NoStep<S> {
 }
 
 /// What a step gives: the busy end while the call goes on, or the idle end with the answer.
+// no `Result`: neither of the two is a failure
 #[derive(Drop)]
 pub enum Stepped<S, A> {
     Going(Busy<S>),

@@ -5,6 +5,7 @@ ghost use Rattle.lane.specs.Openings.{first_word, Filled, Openable, Unopened, Op
 
 use crate::ends::{DrawerIdle, FeederIdle, Idle};
 use crate::lanes::Lane;
+use crate::memory_calls::store;
 use crate::refusals::OpenRefusal;
 use crate::shapes::Shape;
 use crate::sides::Hand;
@@ -56,6 +57,7 @@ fn openable<M: Memory>(memory: &mut M, rings: u8, cells: u8) -> Result<Shape, Op
 }
 
 /// Whether a lane of this many rings and cells can be opened in the memory: their ranges first, then the memory's size.
+// plain numbers and no `Shape`, since those out of range are refused here
 pub fn check_opening<M: Memory>(memory: &mut M, rings: u8, cells: u8) -> Result<(), OpenRefusal>
     ensures { MatchResult result
         (λ _. Openable M.Memory rings cells memory.old memory.new)
@@ -65,15 +67,13 @@ pub fn check_opening<M: Memory>(memory: &mut M, rings: u8, cells: u8) -> Result<
     Ok(())
 }
 
-// Stores every word of the lane, upwards.
+// Stores every word of the lane, upwards; `a` is an address, so there is nothing to iterate over but the numbers.
 fn fill<M: Memory>(memory: &mut M, shape: Shape)
     requires { words_of shape.rings shape.cells ≤ length (M.Memory.meaning memory.old).landed }
     ensures { Filled M.Memory shape.rings shape.cells memory.old (words_of shape.rings shape.cells) memory.new }
 {
     for a in 0..shape.words() {
-        if let Err(_) = memory.store(Side::Feeder, a, first_word(shape, a)) {
-            return;
-        }
+        store(memory, Side::Feeder, a, first_word(shape, a));
     }
 }
 

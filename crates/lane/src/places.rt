@@ -12,6 +12,8 @@ fn advance(i: u8, n: u8) -> u8
     if i + 1 == n { 0 } else { i + 1 }
 }
 
+// `Within` is asked for, and no ghost field: it needs the shape, which would then stand in every side and in each definition
+// that moves one on
 impl Places {
     /// The address of the cell.
     pub(crate) fn cell(&self, shape: Shape, spot: Spot) -> usize

@@ -1,4 +1,4 @@
-//! The rows of a put.
+//! The rows of a put. Those of a take are other rows, not the same ones for another type.
 ghost use Rattle.std.specs.Prelude.{◌≡◌, ◌≢◌, ◌≤◌, length};
 ghost use Rattle.lane.specs.PutTable.{PutSees};
 ghost use Rattle.lane.specs.Moments.{moment, PutStep};

@@ -12,6 +12,7 @@ pub enum OpenRefusal {
     TooSmall,
 }
 
+// one case, as a lane's memory has all its words; an enum like the other refusals, which match on it
 #[derive(Clone, Copy, Debug, PartialEq, Eq, Error)]
 pub enum Refusal {
     #[error("this end belongs to another lane or another call")]

@@ -16,6 +16,7 @@ pub(crate) fn ring_of(word: u64, shape: Shape) -> Option<u8>
     }
 }
 
+// inside a lane rings are plain numbers, which index and are counted with; only the words of its memory name them
 pub(crate) fn word_of(ring: u8) -> u64
     ensures { result ≡ ring_word ring }
 {

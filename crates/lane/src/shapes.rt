@@ -19,7 +19,7 @@ impl Shape {
             (λ s. (s.rings ≡ rings) × (s.cells ≡ cells))
             (λ why. (why ≡ OutOfRange) × (Shaped rings cells → ⊥)) }
     {
-        if rings < 2 || rings > 8 || cells < 1 || cells > 64 {
+        if !(2..=8).contains(&rings) || !(1..=64).contains(&cells) {
             return Err(OpenRefusal::OutOfRange);
         }
         Ok(Shape { rings, cells })

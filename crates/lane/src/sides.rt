@@ -33,6 +33,7 @@ pub enum Take<K> {
 #[derive(Clone, Copy)]
 pub struct Places {
     pub ring: u8,
+    // for as many rings as a lane can have; there is no heap here
     pub at: [u8; 8],
     pub next: u8,
     pub free: u8,

@@ -2,7 +2,8 @@
 ghost use Rattle.std.specs.Prelude.{◌≡◌, ◌≢◌, ℕ, ◌+◌, ◌<◌, ◌≤◌, None, length, MatchResult, MatchBool};
 ghost use Rattle.memory.specs.declared.Side.{Side};
 ghost use Rattle.memory.specs.declared.Side.TheVariants.{Feeder, Drawer};
-ghost use Rattle.lane.specs.Ends.{Fits, Begun, NotBegun};
+ghost use Rattle.lane.specs.Ends.{Fits, Begun, NotBegun, NotMade};
+ghost use Rattle.lane.specs.declared.ends.End.TheVariants as either;
 ghost use Rattle.lane.specs.Layout.{Within, words_of};
 ghost use Rattle.lane.specs.Moves.{StoredOn};
 ghost use Rattle.lane.specs.Stages.{take_ring, take_steps};
@@ -12,7 +13,7 @@ ghost use Rattle.lane.specs.declared.sides.Put.TheVariants as put;
 ghost use Rattle.lane.specs.declared.sides.Take.TheVariants as take;
 
 use crate::answers::{Ended, TakeAnswer};
-use crate::ends::{Busy, Idle, Unbegun};
+use crate::ends::{Busy, Idle, NoStep, Unbegun};
 use crate::memory_calls::store;
 use crate::shapes::Shape;
 use crate::sides::{Hand, Places, Put, Spot, Take};
@@ -110,12 +111,23 @@ impl<S: Stage> Hand<S> {
         Ok(end.begin())
     }
 
+    // an end for a step: it is this lane's, and a call is under way
+    pub(crate) fn under_way<E>(&self, lane: u32, end: Busy<E>) -> Result<Busy<E>, NoStep<E>>
+        ensures { MatchResult result
+            (λ b. (b ≡ end) × Fits lane S.Stage.idle self.now.stage (either.Busy end))
+            (λ e. NotMade (Fits lane S.Stage.idle self.now.stage) self.now self.now end e) }
+    {
+        if end.lane != lane || self.stage.is_idle() {
+            return Err(NoStep { end });
+        }
+        Ok(end)
+    }
+
     // stores a word in a cell that the side comes to, and moves the side's position on
     pub(crate) fn store<M: Memory>(&mut self, memory: &mut M, shape: Shape, spot: Spot, word: u64)
         requires within { Within shape.rings shape.cells self.old.places }
         requires room { words_of shape.rings shape.cells ≤ length (M.Memory.meaning memory.old).landed }
-        ensures stored { StoredOn M.Memory shape.rings shape.cells S.Stage.side spot word self.old self.new memory.old memory.new }
-        ensures size { length (M.Memory.meaning memory.new).landed ≡ length (M.Memory.meaning memory.old).landed }
+        ensures { StoredOn M.Memory shape.rings shape.cells S.Stage.side spot word self.old self.new memory.old memory.new }
     {
         store(memory, S::side(), self.places.cell(shape, spot), word);
         self.places = self.places.moved_on(shape, spot);

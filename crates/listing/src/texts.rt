@@ -25,7 +25,8 @@ fn digits_of(word: u64) -> [u8; 16]
 {
     let mut digits = [b'0'; 16];
     let mut rest = word;
-    // by index, since nothing is known of what is written through an adapter of `iter_mut`
+    // by index from the end, since nothing is known of what is written through a `rev` of `iter_mut`; no `array::from_fn`, as
+    // each digit is cut from what the one behind it leaves
     for i in 0..16 {
         digits[15 - i] = hexadecimal_digit((rest % 16) as u8);
         rest /= 16;
@@ -33,6 +34,7 @@ fn digits_of(word: u64) -> [u8; 16]
     digits
 }
 
+// each push asks for the room that it takes, which no invariant of the text can promise
 impl Text {
     pub(crate) fn new() -> Text
         ensures { result.bytes.items ≡ [] }

@@ -19,7 +19,7 @@ const MOVES: [Move; 6] = [
 ];
 
 const LENGTH: usize = 7;
-// as many as there are rows of seven moves: 6 to the power of 7
+// as many as there are rows of seven moves: 6 to the power of 7, written out, since a constant may not call `pow`
 const ORDERS: usize = 279_936;
 
 // what was seen

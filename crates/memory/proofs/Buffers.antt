@@ -244,11 +244,6 @@ module _ {X : Type 0} (G : Ghosts X) where
   pub buffer_made : (k : Call) (x y : Buffer X) → BufferCall G k (parts x) (parts y) → Made (λ z. above G (parts z)) (λ j u v. BufferCall G j (parts u) (parts v)) k x y
   buffer_made k x y h = record { call = h; rule = buffer_rules k (parts x) (parts y) h }
 
-  -- an answered store goes below, and a refused one comes to nothing
-  pub store_sent : (s : Side) (a w : ℕ) (x y : X) (r : Result (Unit {0}) NoAddress) → MatchResult r (λ _. Does G (Store s a w) x y) (λ e. NoPlace G.meaning a e.address x y) → Sent G s (Kept.Store a w) x y
-  store_sent s a w x y (Ok u) h = stored h
-  store_sent s a w x y (Err e) h = refused h.beyond h.same
-
   -- a look that finds no own store gives the answer from below
   pub looked_below : (s : Side) (a n : ℕ) (x u : Buffer X) (z : X) (r : Result ℕ NoAddress) → newest a (mine s (parts x)) ≡ None → Does G (Size n) x.below z → MatchResult r (λ w. Does G (Look s a w) z u.below) (λ e. NoPlace G.meaning a e.address z u.below) → parts u ≡ with_below u.below (parts x) → MatchResult r (λ w. Made (λ v. above G (parts v)) (λ j p q. BufferCall G j (parts p) (parts q)) (Look s a w) x u) (λ e. NoPlace (λ v. above G (parts v)) a e.address x u)
   looked_below s a n x u z (Ok w) e t h b = buffer_made (Look s a w) x u (looks_below e t h b)

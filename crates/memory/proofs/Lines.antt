@@ -6,6 +6,7 @@ use Rattle.std.proofs.lemmas.List.Sums.{sum_by-cons}
 use Rattle.std.proofs.Math.Seq.{split_at}
 use Rattle.std.specs.List.{zip, list_any, range_with_len}
 use Rattle.std.specs.Option.{option_map, option_or}
+use Rattle.std.proofs.lemmas.Bool.{false≢true}
 use Rattle.memory.specs.declared.line.Waiting.{Waiting}
 use Rattle.memory.specs.Meaning.{Entry, store, bar, tidy, tidy_from, words_to, last_or, stores, Out, here, past}
 use Rattle.memory.specs.Line.{fence, entries_of, line_of, older_than, holds_back, free, ready, blank, Numbered, TakenOut}
@@ -116,11 +117,8 @@ youngest_seen a l f w = youngest_word a w l ∙ sym (seen_fenced a w l f)
 
 -- what can land
 
-never : false ≡ true → ⊥
-never e = let z : ◌≡◌ {A = ℕ} 0 1 = cc in omega arith
-
 both : (t x : Bool) → cond t false x ≡ true → (t ≡ false) × (x ≡ true)
-both true x e = absurd (never e)
+both true x e = absurd (false≢true e)
 both false x e = (refl, e)
 
 free-++ : (a : ℕ) (l k : List Entry) → free a (l ++ k) ≡ cond (free a l) (free a k) false
@@ -246,8 +244,8 @@ numbered_at l k (Some i) e = subst (λ o. MatchOption o (ready [] (line_of l tru
 
 pub out_free : (a w : ℕ) (older younger : List Entry) → free a older ≡ true → Out a w (older ++ (store a w ∷ younger)) (older ++ younger)
 out_free a w [] younger h = here
-out_free a w (bar ∷ l) younger h = absurd (never h)
-out_free a w (store b v ∷ l) younger h = let p = both (eqb b a) (free a l) h in past (λ e. never (sym p.0 ∙ eq-eqb b a e)) (out_free a w l younger p.1)
+out_free a w (bar ∷ l) younger h = absurd (false≢true h)
+out_free a w (store b v ∷ l) younger h = let p = both (eqb b a) (free a l) h in past (λ e. false≢true (sym p.0 ∙ eq-eqb b a e)) (out_free a w l younger p.1)
 
 -- behind a store a bar is never idle
 ends_in_store : (b : Bool) (v : Waiting) (p : List Waiting) → idle b (entries_of (v ∷ p) false) ≡ false
@@ -264,7 +262,7 @@ unbarred a [] true k h = refl
 unbarred a (v ∷ p) true k h =
     let E = entries_of (v ∷ p) false in
     let bars : line_of (v ∷ p) true ≡ tidy E ++ (bar ∷ []) = ap tidy (entries_fenced (v ∷ p) true) ∙ (tidy-++ true E (bar ∷ []) ∙ ap (λ (c : Bool). tidy E ++ tidy_from c (bar ∷ [])) (ends_in_store true v p)) in
-    absurd (never (sym (ap (free a) bars ∙ (free-++ a (tidy E) (bar ∷ []) ∙ no_way (free a (tidy E)))) ∙ h))
+    absurd (false≢true (sym (ap (free a) bars ∙ (free-++ a (tidy E) (bar ∷ []) ∙ no_way (free a (tidy E)))) ∙ h))
 
 pub line_without : (a : ℕ) (p q : List Waiting) (b f : Bool) → free a (line_of p b) ≡ true → line_of (p ++ q) f ≡ tidy (line_of p b ++ tidy_from false (entries_of q f))
 line_without a p q b f h =

@@ -1,5 +1,5 @@
 -- How many items have arrived.
-use Rattle.std.proofs.Common.{◌≡◌, ℕ, suc, ◌+◌, ◌*◌, ◌<◌, ◌≤◌, [], ◌∷◌, sym, refl, ap, ◌∙◌, inl, inr, arith}
+use Rattle.std.proofs.Common.{◌≡◌, ℕ, suc, ◌+◌, ◌*◌, ◌<◌, ◌≤◌, sym, refl, ap, ◌∙◌, inl, inr, arith}
 use Rattle.memory.specs.declared.Side.TheVariants.{Feeder, Drawer}
 use Rattle.queue.proofs.Rounds.{lt_or, eq_or, changed_there, changed_elsewhere}
 use Rattle.queue.proofs.Steps.{changed}
@@ -8,6 +8,7 @@ use Rattle.queue.specs.Waiting.{View}
 use Rattle.queue.proofs.Interface.{Interface}
 use Rattle.queue.proofs.Core.{Ghost, Core}
 use Rattle.queue.proofs.OwnLooks.{find_item}
+use Rattle.queue.proofs.Lines.{cons_no_nil}
 
 module _ (I : Interface) (R N : ℕ) where
   -- L items have arrived in all, the oldest first
@@ -19,7 +20,7 @@ module _ (I : Interface) (R N : ℕ) where
     pub counts : I.count (R * N) m + L ≡ A
 
   pub not_coming : (x : View) (u v : ℕ) → x ≡ rest u → x ≡ coming Feeder v → ⊥
-  not_coming x u v p q = let z : v ∷ [] ≡ [] = ap (mine Feeder) (sym q ∙ p) in let k : ◌≡◌ {A = ℕ} 0 1 = cc in omega arith
+  not_coming x u v p q = cons_no_nil (ap (mine Feeder) (sym q ∙ p))
 
   module _ (L T A : ℕ) (at w : ℕ → ℕ) (m n : I.M) (c : Arrival L T A at w m) where
     -- nothing changes in the cells
@@ -49,7 +50,7 @@ module _ (I : Interface) (R N : ℕ) where
     -- at an item's cell only its own store can land
     drawer_no : (a x i : ℕ) → I.Land Drawer a x m n → g.T ≤ i → i < g.A → g.at i ≡ a → Filled Feeder (g.w i) (I.view m (g.at i)) → ⊥
     drawer_no a x i l p q e (rests z) = rest_lands Drawer x (g.w i) (I.view m a) (I.view n a) (I.land_here Drawer a x m n l) (rw e at z)
-    drawer_no a x i l p q e (comes z) = let h = I.land_here Drawer a x m n l in let y : x ∷ (I.view n a).drawer ≡ [] = sym (ap (mine Drawer) h.was) ∙ ap (mine Drawer) (rw e at z) in let k : ◌≡◌ {A = ℕ} 0 1 = cc in omega arith
+    drawer_no a x i l p q e (comes z) = let h = I.land_here Drawer a x m n l in cons_no_nil (sym (ap (mine Drawer) h.was) ∙ ap (mine Drawer) (rw e at z))
 
     pub arrival_drawer : (a x : ℕ) → I.Land Drawer a x m n → Arrival L g.T g.A g.at g.w n
     arrival_drawer a x l = record {
@@ -74,7 +75,7 @@ module _ (I : Interface) (R N : ℕ) where
 
         vac : Vacant Drawer (I.view m a) → ⊥
         vac (vrests z) = rest_lands Feeder x 0 (I.view m a) (I.view n a) lh z
-        vac (goes u ne z) = let y : x ∷ (I.view n a).feeder ≡ [] = sym (ap (mine Feeder) lh.was) ∙ ap (mine Feeder) z in let k : ◌≡◌ {A = ℕ} 0 1 = cc in omega arith
+        vac (goes u ne z) = cons_no_nil (sym (ap (mine Feeder) lh.was) ∙ ap (mine Feeder) z)
 
         item : (i : ℕ) → g.T ≤ i → i < g.A → g.at i ≡ a → (L < g.A) × Arrival (suc L) g.T g.A g.at g.w n
         item i p q e = (omega (arith, is), record { low = omega (arith, r.low); high = omega (arith, is); here = here; yet = yet; counts = omega (arith, r.counts, I.count_land a x m n l (R * N) b) })

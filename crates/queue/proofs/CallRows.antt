@@ -1,5 +1,6 @@
 -- What the rows of the tables do to a call: where it stands, its item, its steps, and how many stores wait for cells.
 use Rattle.std.proofs.Common.{◌≡◌, ℕ, ◌+◌, ◌*◌, ◌<◌, ◌≤◌, Bool, true, false, cond, ltb, ◌⊎◌, List, Some, None, Option, sym, refl, ap, ◌∙◌, inl, inr, arith, length-append}
+use Rattle.std.proofs.lemmas.Option.{none-some}
 use Rattle.memory.specs.declared.Memory as memory
 use Rattle.words.specs.declared.kinds.Kind as kind
 use Rattle.lane.specs.declared.sides.Put.{Put}
@@ -185,7 +186,7 @@ module _ {X K : Type 0} (G : memory.Ghosts X) (κ : kind.Ghosts K) (R N : ℕ) w
   take_moves {d} (taketable.t9 i e h) = take_end d (take.T9 i) _ _ e refl
 
 pub differ : {A : Type 0} {e : Ended A} {B : Type 0} → ◌≡◌ {A = Option (Ended A)} None (Some e) → B
-differ h = absurd (let z : ◌≡◌ {A = ℕ} 0 1 = cc in omega arith)
+differ h = absurd (none-some _ h)
 
 pub answer_is : {A : Type 0} {e f : Ended A} → Some e ≡ Some f → e.answer ≡ f.answer
 answer_is {A} {e} {f} h = let z : e ≡ f = cc in ap (λ (y : Ended A). y.answer) z

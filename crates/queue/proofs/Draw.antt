@@ -1,5 +1,5 @@
 -- The drawer's steps keep the invariant.
-use Rattle.std.proofs.Common.{◌≡◌, ℕ, suc, ◌+◌, ◌-◌, ◌*◌, ◌%◌, ◌<◌, ◌≤◌, [], ◌∷◌, sym, refl, ap, ◌∙◌, subst, inl, inr, mod-lt, arith}
+use Rattle.std.proofs.Common.{◌≡◌, ℕ, suc, ◌+◌, ◌-◌, ◌*◌, ◌%◌, ◌<◌, ◌≤◌, sym, refl, ap, ◌∙◌, subst, inl, inr, mod-lt, arith}
 use Rattle.memory.specs.declared.Side.TheVariants.{Feeder, Drawer}
 use Rattle.queue.proofs.Steps.{moved_on}
 use Rattle.queue.proofs.Views.{mine, seen, rest, coming, ring, visit_word}
@@ -15,6 +15,7 @@ use Rattle.queue.proofs.OwnLooks.{Inside, inside_at, Shows, Shows.oldest, Shows.
 use Rattle.queue.proofs.ListLooks.{NextShows, NextShows.a_ring, NextShows.none, next_shows, mark_own, mark_other, passed_ahead, t1_bare as l1_bare, t3_bare as l3_bare, t8_bare as l8_bare}
 use Rattle.queue.proofs.DrawerStores.{take_core, pop_core, leave_core}
 use Rattle.queue.proofs.Positions.{pos_take, pos_leave}
+use Rattle.queue.proofs.Lines.{cons_no_nil}
 
 module _ (I : Interface) (Item : ℕ → Type 0) (bare_no : Item 0 → ⊥) (R N : ℕ) (R2 : 2 ≤ R) (N1 : 1 ≤ N) where
   small : (x : ℕ) → x % N < N
@@ -28,7 +29,7 @@ module _ (I : Interface) (Item : ℕ → Type 0) (bare_no : Item 0 → ⊥) (R N
   Some g m = (g.T < g.A) × (I.view m (g.at g.T) ≡ rest (g.w g.T))
 
   pub none_some : (g : Ghost) (m : I.M) → None g m → Some g m → ⊥
-  none_some g m h s = let z : g.w g.T ∷ [] ≡ [] = ap (mine Feeder) (sym (h g.T (omega arith) s.0) ∙ s.1) in let k : ◌≡◌ {A = ℕ} 0 1 = cc in omega arith
+  none_some g m h s = cons_no_nil (ap (mine Feeder) (sym (h g.T (omega arith) s.0) ∙ s.1))
 
   pub redraw : (E S C K E' S' : Type 0) (g : Ghost) (p : Places) (s : Putting) (q : Places) (t t' : Taking) (m : I.M) → Inv I Item R N E S C K g p s q t m → DFacts I Item R N g.d g.T g.nh E' S' g.f g.A g.start (g.at g.T) (g.w g.T) m t' → Inv I Item R N E' S' C K g p s q t' m
   redraw E S C K E' S' g p s q t t' m c h = record { core = c.core; kinds = c.kinds; f_ring = c.f_ring; f_next = c.f_next; f_free = c.f_free; d_ring = c.d_ring; d_next = c.d_next; d_free = c.d_free; pos = c.pos; ff = c.ff; dd = h }

@@ -1,5 +1,6 @@
 -- The histories of single moves, and how they join.
-use Rattle.std.proofs.Common.{◌≡◌, ℕ, zero, suc, ◌<◌, ◌≤◌, Bool, true, false, ◌⊎◌, List, [], ◌∷◌, ◌++◌, length, take, drop, set, sym, refl, ap, ◌∙◌, subst, inl, inr, arith}
+use Rattle.std.proofs.Common.{◌≡◌, ℕ, zero, suc, ◌<◌, ◌≤◌, true, ◌⊎◌, List, [], ◌∷◌, ◌++◌, length, take, drop, set, sym, refl, ap, ◌∙◌, subst, inl, inr, arith}
+use Rattle.std.proofs.lemmas.Bool.{true_from_ne_false}
 use Rattle.memory.specs.declared.Memory as memory
 use Rattle.memory.specs.declared.Side.{Side}
 use Rattle.words.specs.declared.kinds.Kind as kind
@@ -49,16 +50,12 @@ module _ {K X : Type 0} where
   take_stays (inplay.Begins.goes_on b) = record { number = refl; rings = refl; cells = refl; memory = refl; feeder = refl; busy = b }
   take_stays (inplay.Begins.begins e) = record { number = refl; rings = refl; cells = refl; memory = refl; feeder = refl; busy = busy_take stage.T1 refl }
 
-true_or : (b : Bool) → (b ≡ false → ⊥) → b ≡ true
-true_or true h = refl
-true_or false h = absurd (h refl)
-
 module _ {K : Type 0} where
   pub putting_now : (s : Put K) → (s ≡ put.Idle → ⊥) → putting s ≡ true
-  putting_now s b = true_or (putting s) (λ e. b (idle_put s e))
+  putting_now s b = true_from_ne_false (putting s) (λ e. b (idle_put s e))
 
   pub taking_now : (s : Take K) → (s ≡ stage.Idle → ⊥) → taking s ≡ true
-  taking_now s b = true_or (taking s) (λ e. b (idle_take s e))
+  taking_now s b = true_from_ne_false (taking s) (λ e. b (idle_take s e))
 
 module _ {K : Type 0} where
   plays_join : {ms ns : List (Move K)} {us vs : List (Said K)} {h k : List (Event K)} → Plays ms us h → Plays ns vs k → Plays (ms ++ ns) (us ++ vs) (h ++ k)

@@ -1,5 +1,5 @@
 -- Each store keeps the queue's invariant.
-use Rattle.std.proofs.Common.{◌≡◌, ℕ, zero, suc, ◌+◌, ◌-◌, ◌*◌, ◌%◌, ◌<◌, ◌≤◌, ◌⊎◌, [], ◌∷◌, sym, ap, ◌∙◌, subst, subst₂, inl, inr, le_of_eq, mod-lt, arith}
+use Rattle.std.proofs.Common.{◌≡◌, ℕ, zero, suc, ◌+◌, ◌-◌, ◌*◌, ◌%◌, ◌<◌, ◌≤◌, ◌⊎◌, sym, ap, ◌∙◌, subst, subst₂, inl, inr, le_of_eq, mod-lt, arith}
 use Rattle.memory.specs.declared.Side.{Side}
 use Rattle.memory.specs.declared.Side.TheVariants.{Feeder, Drawer}
 use Rattle.queue.proofs.Rounds.{lt_or, eq_or, changed_there, changed_elsewhere}
@@ -9,12 +9,13 @@ use Rattle.queue.specs.Waiting.{View}
 use Rattle.queue.proofs.Interface.{Interface, Frame, frame_store}
 use Rattle.queue.proofs.Addresses.{cell, next_slot, free_slot, mark, cells_apart, next_slot≥, free_slot≥, mark≡}
 use Rattle.queue.proofs.Core.{g_put, Ghost, Numbers, Visits, Items, Order, Core, next_frame, free_frame, mark_frame}
+use Rattle.queue.proofs.Lines.{cons_no_nil}
 
 -- a filled address is not at rest with 0
 pub filled_rest : (s : Side) (v : ℕ) (x : View) → (v ≡ 0 → ⊥) → Filled s v x → x ≡ rest 0 → ⊥
 filled_rest s v x ne (rests e) h = ne (ap (λ (q : View). q.word) (sym e ∙ h))
-filled_rest Feeder v x ne (comes e) h = let z : v ∷ [] ≡ [] = ap (λ (q : View). q.feeder) (sym e ∙ h) in let k : ◌≡◌ {A = ℕ} 0 1 = cc in omega arith
-filled_rest Drawer v x ne (comes e) h = let z : v ∷ [] ≡ [] = ap (λ (q : View). q.drawer) (sym e ∙ h) in let k : ◌≡◌ {A = ℕ} 0 1 = cc in omega arith
+filled_rest Feeder v x ne (comes e) h = cons_no_nil (ap (λ (q : View). q.feeder) (sym e ∙ h))
+filled_rest Drawer v x ne (comes e) h = cons_no_nil (ap (λ (q : View). q.drawer) (sym e ∙ h))
 
 -- first items rise with the visits
 pub start_mono : (s : ℕ → ℕ) (j n f : ℕ) → ((k : ℕ) → j ≤ k → k < f → s k < s (suc k)) → j + n ≤ f → s j ≤ s (j + n)

@@ -3,6 +3,10 @@ use Rattle.std.proofs.Common.{◌≡◌, ℕ, ◌+◌, Bool, true, false, cond, 
 use Rattle.memory.specs.Meaning.{Entry, store, bar, tidy_from, tidy, words_to, Out, here, past}
 use Rattle.queue.specs.Waiting.{In, HasBar, Has, BehindBar, Each, Is, tally}
 
+-- a list with an element is not the empty one
+pub cons_no_nil : {A : Type 0} {x : A} {l : List A} → x ∷ l ≡ [] → ⊥
+cons_no_nil h = let k : ◌≡◌ {A = ℕ} 0 1 = cc in omega arith
+
 -- the words
 
 pub words_append : (a : ℕ) (l k : List Entry) → words_to a (l ++ k) ≡ words_to a l ++ words_to a k

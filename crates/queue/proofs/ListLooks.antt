@@ -1,5 +1,5 @@
 -- What the looks at the lists and the mark tell.
-use Rattle.std.proofs.Common.{◌≡◌, ℕ, zero, suc, ◌+◌, ◌-◌, ◌*◌, ◌%◌, ◌<◌, ◌≤◌, ◌⊎◌, [], ◌∷◌, sym, refl, ap, ◌∙◌, inl, inr, mod-lt, arith}
+use Rattle.std.proofs.Common.{◌≡◌, ℕ, zero, suc, ◌+◌, ◌-◌, ◌*◌, ◌%◌, ◌<◌, ◌≤◌, ◌⊎◌, [], sym, refl, ap, ◌∙◌, inl, inr, mod-lt, arith}
 use Rattle.memory.specs.declared.Side.{Side}
 use Rattle.memory.specs.declared.Side.TheVariants.{Feeder, Drawer}
 use Rattle.queue.proofs.Rounds.{eq_or}
@@ -10,6 +10,7 @@ use Rattle.queue.proofs.Addresses.{cell, next_slot, free_slot, mark, cell<, cell
 use Rattle.queue.proofs.Core.{Ghost, Core}
 use Rattle.queue.proofs.ItemStores.{mono}
 use Rattle.queue.proofs.OwnLooks.{visit_of, NoneArrived, fown, down, own_full, waits_on, first_waits, Shows, Shows.oldest, Shows.waiting, Shows.over, shows}
+use Rattle.queue.proofs.Lines.{cons_no_nil}
 
 mark_seen : (R hi lo : ℕ) (x : View) (h : Marked R hi lo x) → seen Drawer x ≡ visit_word R h.from
 mark_seen R hi lo x h = ap (seen Drawer) h.is
@@ -35,7 +36,7 @@ module _ (I : Interface) (R N : ℕ) (R2 : 2 ≤ R) (N1 : 1 ≤ N) where
     free_shows at_t at_h = elim (eq_or (suc g.f) (g.d + R)) [ inl e ↦ none (λ l _. omega arith) (ap (seen Feeder) (c.free.free_rest g.f e)) | inr e ↦ (let l : suc g.f < g.d + R = omega (arith, c.numbers.fR) in fill l (c.free.free_filled g.f (omega arith) l)) ]
       where
         fill : suc g.f < g.d + R → Filled Drawer (visit_word R (suc g.f)) (I.view m (free_slot R N g.f)) → FreeShows
-        fill l (comes e) = none (λ _ h. let z : visit_word R (suc g.f) ∷ [] ≡ [] = ap (mine Drawer) (sym e ∙ h) in let k : ◌≡◌ {A = ℕ} 0 1 = cc in omega arith) (ap (seen Feeder) e)
+        fill l (comes e) = none (λ _ h. cons_no_nil (ap (mine Drawer) (sym e ∙ h))) (ap (seen Feeder) e)
         fill l (rests e) = a_ring l e ready next (ap (seen Feeder) e)
           where
             cells : (p : ℕ) → p < N → Vacant Drawer (I.view m (cell R N (suc g.f) p)) → I.view m (cell R N (suc g.f) p) ≡ rest 0
@@ -130,7 +131,7 @@ module _ (I : Interface) (R N : ℕ) (R2 : 2 ≤ R) (N1 : 1 ≤ N) where
       where
         still : Filled Drawer (visit_word R (suc g.f)) (I.view m (free_slot R N g.f)) → I.view m (free_slot R N g.f) ≡ rest (visit_word R (suc g.f))
         still (rests e) = e
-        still (comes e) = let z : visit_word R (suc g.f) ∷ [] ≡ [] = sym (ap (mine Drawer) e) ∙ quiet (free_slot R N g.f) Drawer in let k : ◌≡◌ {A = ℕ} 0 1 = cc in absurd (omega arith)
+        still (comes e) = absurd (cons_no_nil (sym (ap (mine Drawer) e) ∙ quiet (free_slot R N g.f) Drawer))
 
         times : (R - 1) * N ≡ (R - 2) * N + N
         times = ap (λ (x : ℕ). x * N) (omega arith) ∙ succ (R - 2)

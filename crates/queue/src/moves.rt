@@ -14,6 +14,7 @@ pub enum Move<K> {
 }
 
 /// What a move answers: nothing, or how the call came out that it ended.
+// no `Option` of the other two, which would only nest each pattern on it
 #[derive(Clone, Copy, Debug, PartialEq, Eq)]
 pub enum Said<K> {
     Nothing,

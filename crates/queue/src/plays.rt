@@ -77,6 +77,7 @@ fn make_all<K: Kind, M: Memory>(
 ) -> Play<K, M>
     ensures { Noted M.Memory K.Kind (moment play.lane) (first (length place.old) moves.now) place.old place.new (moment result.lane) }
 {
+    // no `zip` of the two, since nothing is known of what is written through it
     for (i, answer) in place.iter_mut().enumerate() {
         let Some(m) = moves.get(i) else {
             break;

@@ -14,6 +14,9 @@ use lane::{DrawerBusy, DrawerEnd, End, Ended, FeederBusy, FeederEnd, Lane, Stepp
 use memory::Memory;
 use words::Kind;
 
+// The moves of the two sides differ in their ends, calls and answers, each of a type of its own: a trait over both would
+// need more lines for its members than the second function has.
+
 // The busy end: of the put under way, or of one begun with this item, since the lane's own end fits.
 fn feeding<K: Kind, M: Memory>(lane: &mut Lane<K, M>, end: FeederEnd, item: K) -> FeederBusy
     requires { (lane_of end ≡ lane.old.number) × (is_busy end ≡ putting lane.old.feeder.stage) }

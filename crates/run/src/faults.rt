@@ -76,9 +76,8 @@ impl Stop {
         ensures { result ≡ stop_index self }
     {
         match self {
-            Stop::Damaged { index } => index,
-            Stop::UnknownMove { index } => index,
-            Stop::LogFull { index } => index,
+            Stop::Damaged { index } | Stop::UnknownMove { index } | Stop::LogFull { index } =>
+                index,
         }
     }
 }

@@ -59,11 +59,7 @@ fn note(
 fn count_accepted<K: Kind>(ended: Ended<PutAnswer<K>>) -> usize
     ensures { result ≡ accepting (Some ended) }
 {
-    match ended.answer {
-        PutAnswer::Accepted => 1,
-        PutAnswer::NoRing(_) => 0,
-        PutAnswer::Damaged => 0,
-    }
+    usize::from(matches!(ended.answer, PutAnswer::Accepted))
 }
 
 // Notes a step of a put of this item, where it ended the put.
@@ -77,9 +73,8 @@ pub(crate) fn note_put<K: Kind>(
     requires { (counts.calls < length log.old) × (counts.accepted + 1 < 2 ^ 64) }
     ensures { PutNoted K.Kind index item (said_put said) counts log.old log.new result }
 {
-    let ended = match said {
-        Said::Put(ended) => ended,
-        Said::Nothing | Said::Take(_) => return Ok(counts),
+    let Said::Put(ended) = said else {
+        return Ok(counts);
     };
     let told = tell_put(item, ended.answer);
     let calls = note(index, told, ended.steps, counts.calls, log)?;
@@ -99,9 +94,8 @@ pub(crate) fn note_take<K: Kind>(
     requires { counts.calls < length log.old }
     ensures { TakeNoted K.Kind index (said_take said) counts log.old log.new result }
 {
-    let ended = match said {
-        Said::Take(ended) => ended,
-        Said::Nothing | Said::Put(_) => return Ok(counts),
+    let Said::Take(ended) = said else {
+        return Ok(counts);
     };
     let told = tell_take(ended.answer);
     let calls = note(index, told, ended.steps, counts.calls, log)?;

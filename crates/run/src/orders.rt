@@ -4,6 +4,7 @@ ghost use Rattle.run.specs.Orders.{Asks, Unknown};
 
 use memory::Side;
 
+// no `Move` of the queue with nothing in the item's place: an order says nothing of an item, and a move offers one
 #[derive(Clone, Copy, Debug, PartialEq, Eq)]
 pub enum Order {
     /// A step of the put under way, or the first of one that offers the next item.

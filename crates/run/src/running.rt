@@ -20,6 +20,9 @@ pub(crate) struct Stepped<K: Kind, M: Memory> {
     pub(crate) counts: Result<Counts, Stop>,
 }
 
+// The play, the counts and the log go into each step and come out of it: a play is used up by its move, and a struct that
+// holds the borrowed log would have to say of every step that it is still the same log.
+
 // Whether a log with this many records has no place for another.
 fn is_full(log: &[Record], calls: usize) -> bool
     ensures { result ≡ nat_le (length log.now) calls }

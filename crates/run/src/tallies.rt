@@ -27,7 +27,7 @@ pub struct NotRun<M> {
     pub why: RunFault,
 }
 
-// by hand, since a derived `From` does not say what it gives
+// by hand, as a derive neither carries two fields over nor says what it gives
 impl<M> From<NoLane<M>> for NotRun<M> {
     ghost from_gives = { λ e r. (r.memory ≡ e.memory) × (r.why ≡ Opening e.why) };
 
@@ -44,7 +44,8 @@ impl<M: Drop> From<NotRun<M>> for RunFault {
     ghost from_gives = { λ e r. r ≡ e.why };
 
     fn from(e: NotRun<M>) -> RunFault {
-        e.why
+        let NotRun { memory: _, why } = e;
+        why
     }
 }
 

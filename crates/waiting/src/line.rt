@@ -7,7 +7,7 @@ use std::str::{FromStr, SplitWhitespace};
 /// What a line says.
 #[derive(Clone, Copy)]
 pub enum Says {
-    // a comment, or nothing
+    // a comment, or nothing: a line like the others, which is printed as it stands
     Nothing,
     Memory(Setup),
     Call(Request),

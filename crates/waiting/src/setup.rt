@@ -2,6 +2,7 @@
 use crate::line::Unread;
 use std::str::FromStr;
 
+// `book` has the same two under codes, but this program stands on the memories alone
 #[derive(Clone, Copy)]
 pub enum Kind {
     Prompt,

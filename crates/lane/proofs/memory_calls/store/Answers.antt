@@ -1,5 +1,5 @@
 use Rattle.lane.proofs.Sizes.{made_extent}
 use Rattle.lane.proofs.memory_calls.store.Goals as goal
 
-pub returns-clause-size : goal.returns-clause-size
-returns-clause-size g c = made_extent g.M.Memory c.in-Ok.ensures
+pub returns : goal.returns
+returns g c = record { call = c.in-Ok.ensures; size = made_extent g.M.Memory c.in-Ok.ensures }

@@ -1,8 +1,5 @@
-use Rattle.run.proofs.Keeping.{opened_ready, run_as_promised}
+use Rattle.run.proofs.Keeping.{run_as_promised}
 use Rattle.run.proofs.runs.run.Goals as goal
-
-pub make_moves-requires : goal.make_moves-requires
-make_moves-requires g c = opened_ready g.M.Memory g.K.Kind c.in_ok-play.ensures
 
 pub returns : goal.returns
 returns g c =

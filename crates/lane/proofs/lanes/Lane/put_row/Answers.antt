@@ -64,8 +64,8 @@ pub returns-in-P3-default : goal.returns-in-P3-default
 returns-in-P3-default g c =
     let i = c.in-P3-default in
     let e = c.put_look-seen.ensures.sees.blind (ap put_looks i.is-0) in
-    let h = c.store.ensures.stored in
-    let k = h.call in
+    let h = c.store.ensures in
+    let k = h.call.call in
     let s = c.stand-in-P3-default.ensures in
     stepped g.M.Memory g.K.Kind (p3 i.item i.n i.is-0 (rw e at k)) (s.0 ∙ ap (λ h. hand_to h (put.P4 i.item i.n) h.places) h.moved) s.1
 
@@ -73,8 +73,8 @@ pub returns-in-P5-default : goal.returns-in-P5-default
 returns-in-P5-default g c =
     let i = c.in-P5-default in
     let e = c.put_look-seen.ensures.sees.blind (ap put_looks i.is-0) in
-    let h = c.store-in-P5-default.ensures.stored in
-    let k = h.call in
+    let h = c.store-in-P5-default.ensures in
+    let k = h.call.call in
     let s = c.stand-in-P5-default.ensures in
     stepped g.M.Memory g.K.Kind (p5 i.item i.n i.is-0 (rw (e, c.word_of.ensures) at k)) (s.0 ∙ ap (λ h. hand_to h (put.P6 i.item i.n) h.places) h.moved) s.1
 
@@ -82,8 +82,8 @@ pub returns-in-P6-default : goal.returns-in-P6-default
 returns-in-P6-default g c =
     let i = c.in-P6-default in
     let e = c.put_look-seen.ensures.sees.blind (ap put_looks i.is-0) in
-    let h = c.store-in-P6-default.ensures.stored in
-    let k = h.call in
+    let h = c.store-in-P6-default.ensures in
+    let k = h.call.call in
     let s = c.stand-in-P6-default.ensures in
     stepped g.M.Memory g.K.Kind (p6 i.item i.n i.is-0 (rw (e, c.word_of-in-P6-default.ensures) at k)) (s.0 ∙ ap (λ h. hand_to h (put.P7 i.item) (ring_is i.n h.places)) h.moved) s.1
 
@@ -91,7 +91,7 @@ pub returns-in-P8-default : goal.returns-in-P8-default
 returns-in-P8-default g c =
     let i = c.in-P8-default in
     let e = c.put_look-seen.ensures.sees.blind (ap put_looks i.is-0) in
-    let h = c.store-in-P8-default.ensures.stored in
-    let k = h.call in
+    let h = c.store-in-P8-default.ensures in
+    let k = h.call.call in
     let s = c.finish-in-P8-default.ensures in
     stepped g.M.Memory g.K.Kind (p8 i.item i.is-0 (rw (e, c.to_word.ensures) at k)) (s.0 ∙ ap (λ h. hand_done put.Idle h.places) h.moved) (s.1 ∙ ap (λ h. over h Accepted) h.moved)

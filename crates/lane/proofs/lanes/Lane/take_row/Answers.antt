@@ -106,8 +106,8 @@ pub returns-in-T5-default : goal.returns-in-T5-default
 returns-in-T5-default g c =
     let i = c.in-T5-default in
     let e = c.take_look-seen.ensures.sees.blind (ap take_looks i.is-0) in
-    let h = c.store.ensures.stored in
-    let k = h.call in
+    let h = c.store.ensures in
+    let k = h.call.call in
     let s = c.stand-in-T5-default.ensures in
     taken g.M.Memory g.K.Kind (t5 i.n i.is-0 (rw e at k)) (s.0 ∙ ap (λ h. hand_to h (take.T6 i.n) h.places) h.moved) s.1
 
@@ -115,8 +115,8 @@ pub returns-in-T7-default : goal.returns-in-T7-default
 returns-in-T7-default g c =
     let i = c.in-T7-default in
     let e = c.take_look-seen.ensures.sees.blind (ap take_looks i.is-0) in
-    let h = c.store-in-T7-default.ensures.stored in
-    let k = h.call in
+    let h = c.store-in-T7-default.ensures in
+    let k = h.call.call in
     let s = c.stand-in-T7-default.ensures in
     taken g.M.Memory g.K.Kind (t7 i.n i.is-0 (rw (e, c.word_of.ensures) at k)) (s.0 ∙ ap (λ h. hand_to h take.T8 (ring_is i.n h.places)) h.moved) s.1
 
@@ -124,7 +124,7 @@ pub returns-in-T9-default : goal.returns-in-T9-default
 returns-in-T9-default g c =
     let i = c.in-T9-default in
     let e = c.take_look-seen.ensures.sees.blind (ap take_looks i.is-0) in
-    let h = c.store-in-T9-default.ensures.stored in
-    let k = h.call in
+    let h = c.store-in-T9-default.ensures in
+    let k = h.call.call in
     let s = c.finish-in-T9-default.ensures in
     taken g.M.Memory g.K.Kind (t9 i.item i.is-0 (rw e at k)) (s.0 ∙ ap (λ h. hand_done take.Idle h.places) h.moved) (s.1 ∙ ap (λ h. over h (Taken i.item)) h.moved)
