@@ -1,23 +1,31 @@
 //! The header taken apart and checked.
 ghost use Rattle.std.specs.Prelude.{◌≡◌, ◌<◌, ◌≤◌, [], ◌∷◌, length, drop, IfOk, MatchOption};
 ghost use Rattle.book.specs.Checks.{Judged, check as check_of};
-ghost use Rattle.book.specs.Layout.{part_at, stop, layout_of, header_of, part_checks, pair_checks, header_checks, layout_refusal};
+ghost use Rattle.book.specs.Layout.{field, part_at, stop, layout_of, header_of, part_checks, pair_checks, header_checks, layout_refusal};
 
 use crate::header::{BadLayout, Header, LONGEST_BOOK, Layout, Part};
 
-// The pair at the start of the fields, offset and then length, each with the low byte first; and what follows it.
+// A part, from the fields of its pair: offset, then length, each with the low byte first.
+fn part(offset: [u8; 4], size: [u8; 4]) -> Part
+    ensures offset { result.offset ≡ field offset 0 }
+    ensures size { result.size ≡ field size 0 }
+{
+    Part {
+        offset: u32::from_le_bytes(offset),
+        size: u32::from_le_bytes(size),
+    }
+}
+
+// The pair at the start of the fields, and what follows it.
 fn take_pair(fields: &[u8]) -> Option<(Part, &[u8])>
     ensures { MatchOption result
         (length fields.now < 8)
         (λ p. (p.0 ≡ part_at fields.now 0) × (p.1.now ≡ drop 8 fields.now) × (8 ≤ length fields.now)) }
 {
-    let (offset, rest) = fields.split_first_chunk::<4>()?;
-    let (size, rest) = rest.split_first_chunk::<4>()?;
-    let part = Part {
-        offset: u32::from_le_bytes(*offset),
-        size: u32::from_le_bytes(*size),
+    let [o0, o1, o2, o3, l0, l1, l2, l3, rest @ ..] = fields else {
+        return None;
     };
-    Some((part, rest))
+    Some((part([*o0, *o1, *o2, *o3], [*l0, *l1, *l2, *l3]), rest))
 }
 
 // The first byte and the three pairs.
@@ -26,7 +34,9 @@ fn take_header(book: &[u8]) -> Option<Header>
         (length book.now < 25)
         (λ h. (h ≡ header_of book.now) × (25 ≤ length book.now)) }
 {
-    let (first, fields) = book.split_first()?;
+    let [first, fields @ ..] = book else {
+        return None;
+    };
     let (settings, fields) = take_pair(fields)?;
     let (words, fields) = take_pair(fields)?;
     let (moves, _) = take_pair(fields)?;

@@ -2,7 +2,7 @@
 ghost use Rattle.std.specs.Prelude.{◌≡◌, ◌<◌, ◌≤◌, [], length, ℕ, MatchBool, MatchResult};
 ghost use Rattle.memory.specs.Refusals.{number_of, depth_out_of_range};
 
-use crate::entry::{Entry, count_stores, find_newest};
+use crate::entry::{Entry, append, count_stores, find_newest};
 use crate::sides::Sides;
 use crate::{Memory, NoAddress, PLACES, Side};
 use arrayvec::ArrayVec;
@@ -130,7 +130,7 @@ impl<M: Memory> Buffer<M> {
         ensures { Joins M.Memory side entry (parts self.old) (parts self.new) }
     {
         self.make_room(side);
-        self.kept.of_mut(side).push(entry);
+        append(self.kept.of_mut(side), entry);
     }
 
     fn count_all(&mut self, side: Side) -> usize

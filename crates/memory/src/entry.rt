@@ -1,7 +1,10 @@
 //! The stores and bars that a store buffer keeps.
-ghost use Rattle.std.specs.Prelude.{◌≡◌, ◌≤◌, length};
+ghost use Rattle.std.specs.Prelude.{◌≡◌, ◌<◌, ◌≤◌, [], ◌∷◌, ◌++◌, length};
 ghost use Rattle.memory.specs.Meaning.{stores};
 ghost use Rattle.memory.specs.Entries.{own, newest, is_store, word_to};
+
+use crate::PLACES;
+use arrayvec::ArrayVec;
 
 /// A store or a bar that was called and has not gone below yet.
 #[derive(Clone, Copy, Debug, Default, PartialEq, Eq)]
@@ -49,4 +52,21 @@ pub(crate) fn count_stores(entries: &[Entry], size: usize) -> usize
         .iter()
         .filter(|kept| kept.stores_below(size))
         .count()
+}
+
+// fills the entry that it is lent
+fn fill(place: &mut Entry, entry: Entry)
+    ensures { place.new ≡ entry }
+{
+    *place = entry;
+}
+
+// a further entry, the youngest: its place at the end is lent to `fill`
+pub(crate) fn append(kept: &mut ArrayVec<Entry, PLACES>, entry: Entry)
+    requires { length kept.old.items < 16 }
+    ensures { kept.new.items ≡ kept.old.items ++ (entry ∷ []) }
+{
+    let last = kept.len();
+    kept.push(Entry::default());
+    fill(&mut kept.as_mut_slice()[last], entry);
 }
