@@ -47,6 +47,12 @@ abbrev pub WithinBook : RunFault → Type 0
 WithinBook (Opening e) = Unit {0}
 WithinBook (Word f) = f.index ≤ 8188
 
+-- the fault is in what is read before the run
+abbrev pub BeforeRun : BookFault → Type 0
+BeforeRun (fault.Layout b) = Unit {0}
+BeforeRun (fault.Setting b) = Unit {0}
+BeforeRun (fault.Run b) = ⊥
+
 -- the move that a run stops at can be one of a book
 abbrev pub StopsWithinBook : Option Stop → Type 0
 StopsWithinBook None = Unit {0}

@@ -1,7 +1,7 @@
 //! What is read of a book before its run.
-ghost use Rattle.std.specs.Prelude.{IfOk};
+ghost use Rattle.std.specs.Prelude.{IfOk, IfErr};
 ghost use Rattle.book.specs.Checks.{Judged};
-ghost use Rattle.book.specs.Faults.{book_refusal};
+ghost use Rattle.book.specs.Faults.{book_refusal, BeforeRun};
 ghost use Rattle.book.specs.Plans.{plan_checks, Planned};
 
 use crate::faults::BookFault;
@@ -19,6 +19,7 @@ pub(crate) struct Plan {
 /// Reads the header, then the settings.
 pub(crate) fn read_plan(book: &[u8]) -> Result<Plan, BookFault>
     ensures judged { Judged book_refusal (plan_checks book.now) result }
+    ensures unrun { IfErr result (λ f. BeforeRun f) }
     ensures planned { IfOk result (λ p. Planned book.now p) }
 {
     let layout = read_layout(book)?;

@@ -1,7 +1,17 @@
--- The digits of a word, from the last to the first.
-use Rattle.std.proofs.Common.{◌≡◌, ℕ, suc, ◌/◌, ◌%◌, ◌≤◌, List, [], ◌∷◌, ◌++◌, length, drop, set, sym, ap, ◌∙◌, add-one, arith}
-use Rattle.std.proofs.lemmas.List.{append_assoc, drop-set}
+-- How many digits a number has, and the digits of a word, from the last to the first.
+use Rattle.std.proofs.Common.{◌≡◌, ℕ, suc, ◌+◌, ◌/◌, ◌%◌, ◌^◌, ◌<◌, ◌≤◌, List, [], ◌∷◌, ◌++◌, length, drop, set, decimal, sym, ap, ◌∙◌, add-one, arith}
+use Rattle.std.proofs.lemmas.List.{append_assoc, drop-set, length_push}
+use Rattle.std.proofs.lemmas.Fmt.{decimal_digit, decimal_step, length-decimal-le}
 use Rattle.listing.specs.Numerals.{hexadecimal, hexadecimal_digit}
+
+pub one_digit : (n : ℕ) → n < 10 → length (decimal n) ≡ 1
+one_digit n h = ap length (decimal_digit n h)
+
+pub one_more : (n : ℕ) → 10 ≤ n → n < 2 ^ 64 → length (decimal n) ≡ length (decimal (n / 10)) + 1
+one_more n h f = ap length (decimal_step n h f) ∙ length_push (decimal (n / 10)) (48 + n % 10)
+
+pub few : (n : ℕ) → n < 2 ^ 64 → length (decimal n) ≤ 20
+few n f = length-decimal-le 20 n (omega arith) (omega arith) f
 
 -- one digit more before those that stand at the end
 pub next_digit : (k w d : ℕ) (xs all : List ℕ) → suc k ≤ length xs → d ≡ hexadecimal_digit (w % 16) → hexadecimal (suc k) w ++ drop (suc k) xs ≡ all → hexadecimal k (w / 16) ++ drop k (set xs k d) ≡ all

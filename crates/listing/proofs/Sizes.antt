@@ -7,11 +7,9 @@ use Rattle.std.proofs.lemmas.Fmt.{length-decimal-le}
 use Rattle.listing.specs.Listing.{line, end_line, no_refusal, word_text}
 use Rattle.listing.specs.Bounds.{Early}
 use Rattle.listing.specs.declared.lines.End.{End}
+use Rattle.listing.proofs.Digits.{few}
 use Rattle.listing.proofs.Pieces.{label, line_length, end_length}
 use Rattle.listing.proofs.Whole.{no_record}
-
-few : (n : ℕ) → n < 2 ^ 64 → length (decimal n) ≤ 20
-few n f = length-decimal-le 20 n (omega arith) (omega arith) f
 
 answer_short : (a : Answer) → length (label a) + length (word_text a) ≤ 27
 answer_short (Accepted w) = omega arith
@@ -30,3 +28,7 @@ pub early_at : (rs : List Record) (i : ℕ) → Early rs → i < length rs → (
 early_at [] i h k = absurd (omega arith)
 early_at (r ∷ rs) zero h k = h.0
 early_at (r ∷ rs) (suc i) h k = early_at rs i h.1 (omega arith)
+
+-- a sum that has no place in 64 bits is not small
+pub too_long : (n k : ℕ) → (n < 2 ^ 64 → ⊥) → n ≤ k → 2 ^ 64 ≤ k
+too_long n k h l = omega arith

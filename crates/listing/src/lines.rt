@@ -3,7 +3,7 @@ ghost use Rattle.std.specs.Prelude.{◌≡◌, ◌+◌, ◌<◌, ◌≤◌, ◌+
 ghost use Rattle.arrayvec.specs.ArrayVec.{array_vec_len};
 ghost use Rattle.listing.specs.Listing.{side_letter, answer_text, word_text, line, end_line};
 
-use crate::texts::Text;
+use crate::texts::{Text, decimal_length};
 use run::{Answer, Record};
 
 /// A refusal as a baker sees it: its number, and the byte of the book that it names.
@@ -31,6 +31,28 @@ fn side_and_answer(answer: Answer) -> &'static [u8]
         Answer::Taken(_) => b" D out ",
         Answer::Empty => b" D empty ",
     }
+}
+
+fn word_length(answer: Answer) -> usize
+    ensures { (result ≡ length (word_text answer)) × (result ≤ 16) }
+{
+    match answer {
+        Answer::Accepted(_) | Answer::NoRing(_) | Answer::Taken(_) => 16,
+        Answer::Empty => 1,
+    }
+}
+
+// counted, so that a line is put together only once
+pub(crate) fn line_length(call: &Record) -> usize
+    ensures counted { result ≡ length (line call.now) }
+    ensures short { call.now.index < 65536 → result ≤ 37 }
+{
+    decimal_length(call.index as u64)
+        + side_and_answer(call.answer).len()
+        + decimal_length(call.steps as u64)
+        + 1
+        + word_length(call.answer)
+        + 1
 }
 
 fn push_item(text: &mut Text, answer: Answer)

@@ -5,7 +5,7 @@ ghost use Rattle.listing.specs.Bounds.{Early, room_for};
 ghost use Rattle.listing.specs.Listing.{listing};
 ghost use Rattle.listing.specs.Places.{Written, Placed};
 
-use crate::lines::{End, end_line_of, line_of};
+use crate::lines::{End, end_line_of, line_length, line_of};
 use run::Record;
 
 // The listing's length, where a number of 64 bits can hold it.
@@ -15,7 +15,7 @@ fn listing_length(records: &[Record], end: &End) -> Option<usize>
 {
     let mut total = 0usize;
     for call in records {
-        total = total.checked_add(line_of(call).len())?;
+        total = total.checked_add(line_length(call))?;
     }
     total.checked_add(end_line_of(end).len())
 }

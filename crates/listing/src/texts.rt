@@ -12,6 +12,18 @@ pub(crate) struct Text {
     bytes: ArrayVec<u8, 80>,
 }
 
+// How many digits the decimal number has.
+pub(crate) fn decimal_length(n: u64) -> usize
+    ensures counted { result ≡ length (decimal n) }
+    ensures few { (0 < result) × (result ≤ 20) }
+{
+    if n < 10 {
+        1
+    } else {
+        1 + decimal_length(n / 10)
+    }
+}
+
 // The standard library formats upper-case digits only by `write!`, which is not known to succeed here.
 fn hexadecimal_digit(d: u8) -> u8
     requires { d < 16 }
@@ -69,8 +81,13 @@ impl Text {
         ensures text { self.new.bytes.items ≡ self.old.bytes.items ++ decimal n }
         ensures len { array_vec_len self.new.bytes ≤ array_vec_len self.old.bytes + 20 }
     {
-        let mut digits = Buffer::new();
-        self.push(digits.format(n).as_bytes());
+        // most numbers of a line have one digit, for which no buffer is filled
+        if n < 10 {
+            self.push(&[b'0' + n as u8]);
+        } else {
+            let mut digits = Buffer::new();
+            self.push(digits.format(n).as_bytes());
+        }
     }
 
     // The word in 16 digits.

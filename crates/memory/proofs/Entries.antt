@@ -1,14 +1,27 @@
 -- What is seen and counted among the entries of a store buffer.
-use Rattle.std.proofs.Common.{◌≡◌, ℕ, ◌+◌, ◌<◌, Bool, true, false, cond, eqb, ltb, List, [], ◌∷◌, ◌++◌, drop, count_by, Some, None, Option, unwrap_or, MatchOption, sym, refl, ap, ◌∙◌, subst, ne_eqb, one-add, arith, ltb-false, eqb-true}
+use Rattle.std.proofs.Common.{◌≡◌, ℕ, ◌+◌, ◌<◌, ◌≤◌, Bool, true, false, cond, eqb, ltb, List, [], ◌∷◌, ◌++◌, length, get_or, drop, count_by, Some, None, Option, unwrap_or, MatchOption, sym, refl, ap, ◌∙◌, subst, ne_eqb, one-add, arith, ltb-false, eqb-true}
 use borrow.Author.Tests.{eqb-false}
 use Rattle.std.specs.List.{filter_map, cons_option, last_or as last_some, position, position_from}
+use Rattle.std.proofs.lemmas.List.{drop_more, drop_all}
 use Rattle.std.proofs.lemmas.List.Recursion.{is_count_by}
 use Rattle.std.proofs.lemmas.Iterator.Adapters.{position_from-zero}
 use Rattle.memory.specs.declared.entry.Entry.{Entry as Kept}
 use Rattle.memory.specs.Meaning.{Entry, store, bar, words_to, last_or, stores}
-use Rattle.memory.specs.Entries.{own, newest_from, newest, is_store, word_to, through}
+use Rattle.memory.specs.Entries.{own, newer, newest_from, newest, is_store, word_to, through}
 
 -- looking
+
+-- what stands where there is no entry
+abbrev pub blank : Kept
+blank = Kept.Store 0 0
+
+pub newest_more : (l : List Kept) (i a : ℕ) (o p : Option ℕ) (q : Kept) → i < length l → get_or l i blank ≡ q → p ≡ newer a q o → newest_from a o (drop i l) ≡ newest a l → newest_from a p (drop (i + 1) l) ≡ newest a l
+newest_more l i a o p q h e f g =
+    ap (λ (z : Option ℕ). newest_from a z (drop (i + 1) l)) (f ∙ ap (λ (z : Kept). newer a z o) (sym e))
+    ∙ (ap (newest_from a o) (sym (drop_more l i blank h)) ∙ g)
+
+pub newest_all : (l : List Kept) (i a : ℕ) (o : Option ℕ) → length l ≤ i → newest_from a o (drop i l) ≡ newest a l → o ≡ newest a l
+newest_all l i a o h g = ap (newest_from a o) (sym (drop_all i l h)) ∙ g
 
 newest_last : (a : ℕ) (o : Option ℕ) (l : List Kept) → last_some o (filter_map (word_to a) l) ≡ newest_from a o l
 newest_last a o [] = refl

@@ -1,6 +1,7 @@
 -- What storing, looking and taking out do to the line that a table of waiting stores stands for.
-use Rattle.std.proofs.Common.{◌≡◌, ℕ, zero, suc, ◌+◌, ◌<◌, ◌≤◌, Bool, true, false, cond, not, ◌||◌, eqb, List, [], ◌∷◌, ◌++◌, length, get_or, take, drop, reverse, filter, find, remove, count_by, slice_get, Option, Some, None, unwrap_or, MatchOption, sym, refl, ap, ◌∙◌, subst, append_assoc, add-zero, add_assoc, zero-add, one-add, add-one, arith, eq-eqb, length-drop}
-use Rattle.std.proofs.lemmas.List.{append-nil, take_more, take_all, get_or-drop, get_or_default, reverse-append}
+use Rattle.std.proofs.Common.{◌≡◌, ℕ, zero, suc, ◌+◌, ◌-◌, ◌<◌, ◌≤◌, Bool, true, false, cond, not, ◌||◌, eqb, List, [], ◌∷◌, ◌++◌, length, get_or, take, drop, set, reverse, filter, find, remove, count_by, slice_get, Option, Some, None, unwrap_or, MatchOption, sym, refl, ap, ◌∙◌, subst, append_assoc, add-zero, add_assoc, zero-add, one-add, add-one, arith, eq-eqb, length-drop}
+use Rattle.std.proofs.lemmas.List.{append-nil, take_more, take_more_set, take-take, take_all, drop_all, drop-drop, drop-set-lt, get_or-drop, get_or_default, length-take, length-take-le, reverse-append}
+use Rattle.std.proofs.lemmas.List.Edits.{remove-append_left}
 use Rattle.std.proofs.lemmas.List.Folds.{find-append, list_any-append}
 use Rattle.std.proofs.lemmas.List.Sums.{sum_by-cons}
 use Rattle.std.proofs.Math.Seq.{split_at}
@@ -281,3 +282,31 @@ taken_out l f v i k n x =
       number = ap (ready []) older_is ∙ n.number;
       after = line_without v.address (take i l) (drop (suc i) l) v.barred f can;
     }
+
+-- closing the gap that it leaves
+
+-- the gap at `at` is closed as far as place i: what stood behind it has moved up, and from i on all is as it was
+pub record ClosedTo (at i : ℕ) (l m : List Waiting) : Type 0 where
+  pub moved : take (i - 1) m ≡ remove (take i l) at
+  pub rest : drop i m ≡ drop i l
+
+pub closed_start : (at : ℕ) (l : List Waiting) → ClosedTo at (at + 1) l l
+closed_start at l =
+    let up = take (at + 1) l in
+    let none : drop (suc at) up ≡ [] = drop_all (suc at) up (omega (arith, length-take (at + 1) l)) in
+    record {
+      moved = ap (λ n. take n l) (omega arith) ∙ (sym (take-take at (at + 1) l (omega arith)) ∙ (sym (append-nil (take at up)) ∙ ap (λ z. take at up ++ z) (sym none)));
+      rest = refl;
+    }
+
+pub closed_more : (at i : ℕ) (l m : List Waiting) (v : Waiting) → at < i → i < length l → length m ≡ length l → v ≡ get_or m i v → ClosedTo at i l m → ClosedTo at (i + 1) l (set m (i - 1) v)
+closed_more at i l m v h k size e c =
+    let same : get_or l i v ≡ v = get_or_first i l v ∙ (ap (λ z. get_or z 0 v) (sym c.rest) ∙ (sym (get_or_first i m v) ∙ sym e)) in
+    let more : take (i + 1) l ≡ take i l ++ (v ∷ []) = take_more l i v k ∙ ap (λ u. take i l ++ (u ∷ [])) same in
+    record {
+      moved = ap (λ n. take n (set m (i - 1) v)) (omega arith) ∙ (take_more_set m (i - 1) v (omega arith) ∙ (ap (λ z. z ++ (v ∷ [])) c.moved ∙ (sym (remove-append_left (take i l) (v ∷ []) at (omega (arith, length-take-le i l (omega arith)))) ∙ ap (λ z. remove z at) (sym more))));
+      rest = drop-set-lt (i + 1) m (i - 1) v (omega arith) ∙ (sym (drop-drop 1 i m) ∙ (ap (drop 1) c.rest ∙ drop-drop 1 i l));
+    }
+  where
+    get_or_first : (i : ℕ) (l : List Waiting) (d : Waiting) → get_or l i d ≡ get_or (drop i l) 0 d
+    get_or_first i l d = sym (get_or-drop i l 0 d ∙ ap (λ n. get_or l n d) (add-zero i))

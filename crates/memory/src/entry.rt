@@ -1,7 +1,7 @@
 //! The stores and bars that a store buffer keeps.
 ghost use Rattle.std.specs.Prelude.{◌≡◌, ◌<◌, ◌≤◌, [], ◌∷◌, ◌++◌, length};
 ghost use Rattle.memory.specs.Meaning.{stores};
-ghost use Rattle.memory.specs.Entries.{own, newest, is_store, word_to};
+ghost use Rattle.memory.specs.Entries.{own, newer, newest, is_store, word_to};
 
 use crate::PLACES;
 use arrayvec::ArrayVec;
@@ -33,14 +33,22 @@ impl Entry {
     }
 }
 
+// what is found once this entry is seen too
+fn find_newer(kept: Entry, address: usize, found: Option<u64>) -> Option<u64>
+    ensures { result ≡ newer address kept found }
+{
+    kept.word_to(address).or(found)
+}
+
 // the word of the youngest store to the address
 pub(crate) fn find_newest(entries: &[Entry], address: usize) -> Option<u64>
     ensures { result ≡ newest address entries.now }
 {
-    entries
-        .iter()
-        .filter_map(|kept| kept.word_to(address))
-        .last()
+    let mut found = None;
+    for kept in entries {
+        found = find_newer(*kept, address, found);
+    }
+    found
 }
 
 // how many stores there are to addresses below `size`

@@ -1,7 +1,8 @@
 //! The stores of one side that wait, at most sixteen, and the bars between them.
-ghost use Rattle.std.specs.Prelude.{◌≡◌, ℕ, ◌%◌, ◌<◌, ◌≤◌, Bool, true, [], ◌∷◌, ◌++◌, length, MatchOption, slice_index_or};
+ghost use Rattle.std.specs.Prelude.{◌≡◌, ℕ, ◌-◌, ◌%◌, ◌<◌, ◌≤◌, Bool, true, [], ◌∷◌, ◌++◌, length, take, MatchOption, slice_index_or};
 ghost use Rattle.memory.specs.Meaning.{store, bar, tidy, words_to, last_or, stores};
 ghost use Rattle.memory.specs.Line.{line_of, line_in, older_than, free, ready, blank, holds_back, Numbered, TakenOut};
+ghost use Rattle.std.specs.List.{remove};
 ghost use Rattle.std.specs.Option.{unwrap_or};
 
 use crate::PLACES;
@@ -78,6 +79,28 @@ fn place_of(waiting: &[Waiting], k: usize) -> Option<usize>
         .nth(k)
 }
 
+// closes the gap at `at`: each store behind it moves up by one, and the last place is left over
+fn close(waiting: &mut [Waiting], at: usize)
+    requires { at < length waiting.old }
+    ensures { take (length waiting.old - 1) waiting.new ≡ remove waiting.old at }
+{
+    for i in at + 1..waiting.len() {
+        waiting[i - 1] = waiting[i];
+    }
+}
+
+// takes out store number `at`; for a vector's `remove` the compiler would ask the host for `memmove`
+fn take_out(waiting: &mut ArrayVec<Waiting, PLACES>, at: usize) -> Waiting
+    requires { at < length waiting.old.items }
+    ensures value { result ≡ slice_index_or waiting.old.items at result }
+    ensures items { waiting.new.items ≡ remove waiting.old.items at }
+{
+    let gone = waiting.as_slice()[at];
+    close(waiting.as_mut_slice(), at);
+    waiting.pop();
+    gone
+}
+
 impl Line {
     pub(crate) fn new() -> Line
         ensures { line_in result ≡ [] }
@@ -141,6 +164,6 @@ impl Line {
             return None;
         }
         let at = place_of(waiting, pick % ready)?;
-        Some(self.waiting.remove(at))
+        Some(take_out(&mut self.waiting, at))
     }
 }

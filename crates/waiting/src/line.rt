@@ -17,20 +17,6 @@ pub enum Says {
 #[derive(Clone, Copy, Debug)]
 pub struct Unread;
 
-/// A line of a script, with its number and what it says.
-#[derive(Drop)]
-pub struct Line {
-    pub number: usize,
-    pub text: String,
-    pub says: Result<Says, Unread>,
-}
-
-impl Line {
-    pub(crate) fn names_memory(&self) -> bool {
-        matches!(self.says, Ok(Says::Memory(_)))
-    }
-}
-
 impl FromStr for Says {
     type Err = Unread;
 
